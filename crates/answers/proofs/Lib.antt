@@ -1,0 +1,9 @@
+pub mod Opened
+pub mod Calls01
+pub mod Calls02
+pub mod Calls03
+pub mod Calls04
+pub mod Calls05
+pub mod Calls06
+pub mod Calls07
+pub mod Calls08

@@ -1,0 +1,4 @@
+pub mod Opened
+pub mod Calls
+pub mod Table
+pub mod Cases

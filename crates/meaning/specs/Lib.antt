@@ -1,0 +1,11 @@
+pub mod Kinds
+pub mod Floats
+pub mod Scalars
+pub mod Trees
+pub mod Answers
+pub mod Records
+pub mod Read
+pub mod Convert
+pub mod Build
+pub mod Typing
+pub mod Entries

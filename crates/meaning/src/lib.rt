@@ -1,0 +1,1 @@
+// The meaning of document 01: definitions in specs/, theorems about them in proofs/. No code.
