@@ -1,0 +1,19 @@
+-- `float::low` meets its contract. A mask of k ones keeps the k low bits.
+use borrow.Author.Needs.{needs}
+use native.Mathlib.Omega.{arith}
+use lib.Pow.{pow-pos}
+use Rattle.float.proofs.Rounds.{masked}
+use Rattle.float.proofs.low.Statement.{statement}
+use Rattle.float.proofs.low.Tie as tie
+
+power-requires : tie.Need-power-requires
+power-requires c κs = search needs
+
+sub-result : tie.Need-sub-result
+sub-result c = omega (arith, pow-pos (c .before .args .k))
+
+returns : tie.Need-returns
+returns c = masked (c .before .args .x) (c .before .args .k) (c .power .ensures)
+
+pub low-spec : {M : Type 1} → statement M
+low-spec = tie.close (tie.spec power-requires sub-result returns)

@@ -1,0 +1,70 @@
+-- `float::pack` meets its contract. The field and the digits kept fit, and their sum is the pattern.
+use borrow.Author.Needs.{needs}
+use native.Mathlib.Omega.{arith}
+use Rattle.float.proofs.Rounds.{packs-zero, room-up, sum-fits, packs}
+use Rattle.float.proofs.pack.Statement.{statement}
+use Rattle.float.proofs.pack.Tie as tie
+
+returns : tie.Need-returns
+returns c = let a = c .before .args in packs-zero (a .p) (a .emax) (a .m) (a .e) (c .if1 .taken)
+
+dropped-requires : tie.Need-dropped-requires
+dropped-requires c κs = search needs
+
+unit-requires : tie.Need-unit-requires
+unit-requires c κs = search needs
+
+add-scaled : tie.Need-add-scaled
+add-scaled c = search needs
+
+scaled-requires : tie.Need-scaled-requires
+scaled-requires c κs =
+    let d = c .before in
+    let s = d .before .before in
+    let a = s .args in
+    room-up (a .p) (a .emax) (a .m) (a .e) (c .unit .ensures) (s .pre .0) (d .dropped .ensures .0) (omega arith)
+
+placed-requires : tie.Need-placed-requires
+placed-requires c κs = search needs
+
+add-smaller : tie.Need-add-smaller
+add-smaller c =
+    let u = c .before .before in
+    let d = u .before in
+    let s = d .before .before in
+    let a = s .args in
+    record {
+      fits = sum-fits (a .p) (a .emax) (a .m) (a .e) (u .unit .ensures) (s .pre .0) (d .dropped .ensures .0) (c .placed .ensures) (c .before .scaled .ensures) (omega arith);
+    }
+
+infinity-requires : tie.Need-infinity-requires
+infinity-requires c κs = search needs
+
+smaller-requires : tie.Need-smaller-requires
+smaller-requires c κs = search needs
+
+returns-2 : tie.Need-returns-2
+returns-2 c =
+    let k = c .before .before in
+    let u = k .before .before in
+    let d = u .before in
+    let s = d .before .before in
+    let a = s .args in
+    packs (a .p) (a .emax) (a .m) (a .e) (u .unit .ensures) (s .pre .0) (d .dropped .ensures .0) (k .placed .ensures) (k .before .scaled .ensures)
+    (c .before .infinity .ensures)
+    (c .smaller .ensures)
+
+pub pack-spec : {M : Type 1} → statement M
+pack-spec =
+    tie.close
+    (tie.spec
+    returns
+    dropped-requires
+    unit-requires
+    add-scaled
+    scaled-requires
+    placed-requires
+    add-smaller
+    infinity-requires
+    smaller-requires
+    returns-2)

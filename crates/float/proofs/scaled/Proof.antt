@@ -1,0 +1,27 @@
+-- `float::scaled` meets its contract. A shift up is exact, and a shift down rounds.
+use borrow.Author.Needs.{needs}
+use mathlib.Core.Path.{sym, _∙_}
+use native.Mathlib.Omega.{arith}
+use Rattle.laws.proofs.Digits.{closest-shr}
+use Rattle.float.proofs.Rounds.{shifted-up}
+use Rattle.float.proofs.scaled.Statement.{statement}
+use Rattle.float.proofs.scaled.Tie as tie
+
+shl-result : tie.Need-shl-result
+shl-result c = c .before .pre (c .if1 .taken) .0
+
+sub-round-shift : tie.Need-sub-round-shift
+sub-round-shift c = search needs
+
+round-shift-requires : tie.Need-round-shift-requires
+round-shift-requires c κs = search needs
+
+returns : tie.Need-returns
+returns c = let a = c .before .args in shifted-up (a .m) (a .e) (a .d) (c .if1 .taken) (c .before .pre (c .if1 .taken) .1)
+
+returns-2 : tie.Need-returns-2
+returns-2 c = let a = c .before .before .args in c .round-shift .ensures ∙ sym (closest-shr (a .m) (a .e) (a .d) (omega arith))
+
+pub scaled-spec : {M : Type 1} → statement M
+scaled-spec =
+    tie.close (tie.spec shl-result sub-round-shift round-shift-requires returns returns-2)

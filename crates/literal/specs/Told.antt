@@ -1,0 +1,117 @@
+-- What the answers of one literal stand for, and what they are to be for any numbers of kinds and stage.
+use mathlib.Core.Path.{_≡_}
+use mathlib.Core.Option.{Option, none, some}
+use mathlib.Core.Bool.{Bool, not, cond}
+use Prim.Native.Nat.{ℕ, _^_, _≤_, _<_}
+use lib.Dec.{eqb}
+use Rattle.meaning.specs.Kinds.{Kind, f32, kindNo, kindOf, kindRank, isAbstract}
+use Rattle.meaning.specs.Floats.{binary32, Num, nan, value, bits}
+use Rattle.meaning.specs.Scalars.{Stage, number, within, toward, conv, convFits, convBits, checked}
+use Rattle.meaning.specs.Answers.{Result, ok, no, orNo, need, _>>=_, _>>_}
+use Rattle.meaning.specs.Build.{ctorLit}
+use Rattle.meaning.specs.Entries.{stageOf}
+use Rattle.kind.specs.Ends.{ofKind, numbered, low, high}
+use Rattle.literal.specs.declared.Rank.{Rank}
+use Rattle.literal.specs.declared.Rank.the-variants as rank
+use Rattle.literal.specs.declared.Converted.{Converted}
+use Rattle.literal.specs.declared.Converted.the-variants as converted
+use Rattle.literal.specs.declared.Made.{Made}
+use Rattle.literal.specs.declared.Made.the-variants as made
+
+-- what two kinds give, if both are known
+abbrev pub ofKinds : {A : Type 0} → A → (Kind → Kind → A) → Option Kind → Option Kind → A
+ofKinds z f a b = ofKind z (λ j. ofKind z (f j) b) a
+
+-- ---- the range of a kind, by its number
+
+-- it lies within 32 bits
+abbrev pub Short : ℕ → Type 0
+Short n = (numbered low n ≤ 2 ^ 32) × (numbered high n < 2 ^ 32)
+
+-- whether a number lies in it, and the number held there
+abbrev pub inRange : ℕ → Num → Bool
+inRange n x = within (numbered low n) (numbered high n) x
+
+abbrev pub heldIn : ℕ → Num → ℕ
+heldIn n x = toward (numbered low n) (numbered high n) x
+
+-- ---- ranks
+
+-- the code's answer for a rank, and for none
+unfoldable pub rankOf : Option ℕ → Rank
+rankOf none = rank.Never
+rankOf (some n) = rank.At n
+
+-- the rank from one kind to another, by their numbers
+unfoldable pub rankBetween : ℕ → ℕ → Option ℕ
+rankBetween from to = ofKinds none kindRank (kindOf from) (kindOf to)
+
+-- ---- conversion without a constructor
+
+-- the code's answer for a payload, and for none
+unfoldable pub convertedOf : Option ℕ → Converted
+convertedOf none = converted.Unfit
+convertedOf (some p) = converted.To p
+
+-- the literal p of one kind as one of another, by their numbers; a number that is no kind's takes and gives nothing
+unfoldable pub convBetween : ℕ → ℕ → ℕ → Option ℕ
+convBetween to from p = ofKinds none (λ j k. conv k j p) (kindOf from) (kindOf to)
+
+-- a number to a kind, if it fits
+unfoldable pub fitted : Kind → Num → Option ℕ
+fitted k x = cond (convFits k x) (some (convBits k x)) none
+
+-- the same to a kind by its number
+unfoldable pub numberTo : ℕ → Num → Option ℕ
+numberTo to x = ofKind none (λ k. fitted k x) (kindOf to)
+
+-- ---- the number of a literal, by its kind's number; a number that is no kind's has a NaN
+
+unfoldable pub numberOf : ℕ → ℕ → Num
+numberOf n p = ofKind nan (λ k. number k p) (kindOf n)
+
+-- ---- the scalar constructors
+
+-- the paper's number for each answer
+unfoldable pub paper : Made → Result ℕ
+paper (made.Of p) = ok p
+paper made.NoStage = no 3
+paper made.NoTarget = no 1
+paper made.NoArgument = no 2
+paper made.Abstract = no 4
+paper made.Integer = no 15
+paper made.Float = no 21
+
+-- a payload, or a refusal of the number n; 0 refuses nothing
+abbrev pub tried : ℕ → ℕ → Result ℕ
+tried n p = need (eqb n 0) n >> ok p
+
+-- the constructor of the kind k, given a literal of a kind by its number: one that is no kind's is 2, and before the abstract kind's 4
+unfoldable pub ctorFrom : Stage → Kind → ℕ → ℕ → Result ℕ
+ctorFrom s k from p = ofKind (no 2) (λ j. need (not (isAbstract k)) 4 >> ctorLit s k j p) (kindOf from)
+
+-- the constructor of a kind by its number: one that is no kind's is 1
+unfoldable pub ctorTo : Stage → ℕ → ℕ → ℕ → Result ℕ
+ctorTo s to from p = ofKind (no 1) (λ k. ctorFrom s k from p) (kindOf to)
+
+-- and a stage by its number: one over 2 is 3
+unfoldable pub ctorBetween : ℕ → ℕ → ℕ → ℕ → Result ℕ
+ctorBetween stage to from p = orNo 3 (stageOf stage) >>= λ s. ctorTo s to from p
+
+-- the answer r is that of the constructor at every stage; and at every stage that is checked, or that is not, as c says
+abbrev pub Always : Kind → ℕ → ℕ → Made → Type 0
+Always k from p r = (s : Stage) → paper r ≡ ctorFrom s k from p
+
+abbrev pub When : Bool → Kind → ℕ → ℕ → Made → Type 0
+When c k from p r = (s : Stage) → checked s ≡ c → paper r ≡ ctorFrom s k from p
+
+abbrev pub WhenTo : Bool → ℕ → ℕ → ℕ → Made → Type 0
+WhenTo c to from p r = (s : Stage) → checked s ≡ c → paper r ≡ ctorTo s to from p
+
+-- what an abstract kind answers
+unfoldable pub noCtor : ℕ → Result ℕ
+noCtor from = ofKind (no 2) (λ j. no 4) (kindOf from)
+
+-- the number that f16 rounds at last, by the number of its literal's kind
+unfoldable pub before : ℕ → Num → Num
+before from x = cond (eqb from (kindNo f32)) x (binary32 value (binary32 bits x))

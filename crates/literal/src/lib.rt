@@ -1,0 +1,432 @@
+// One literal: its conversion without a constructor (conv.rs, `Convert for LiteralInstance`), and the scalar constructors (builtin/ctor.rs).
+use float::Parts;
+use kind::Scalar;
+ghost use mathlib.Core.Path.{_≡_};
+ghost use mathlib.Core.Option.{none, some};
+ghost use mathlib.Core.Bool.{cond, not, _&&_};
+ghost use Prim.Native.Nat.{_+_, _≤_, _<_, _^_};
+ghost use lib.Dec.{eqb};
+ghost use Rattle.meaning.specs.Kinds.{bool, aint, i32, u32, f32, f16, kindOf, fromAint, fromAfloat};
+ghost use Rattle.meaning.specs.Floats.{binary16, binary32, bits, outside};
+ghost use Rattle.meaning.specs.Floats as Floats;
+ghost use Rattle.meaning.specs.Scalars.{number, within, toward, nonzero};
+ghost use Rattle.laws.proofs.Digits.{Format};
+ghost use Rattle.kind.specs.Ends.{ofKind};
+ghost use Rattle.float.specs.Taken.{Stands, Layout, meaning, exponent};
+ghost use Rattle.literal.specs.Told.{rankOf, rankBetween, convertedOf, convBetween, numberOf, numberTo, Short, inRange, heldIn, paper, tried, before, Always, When, noCtor, WhenTo, ctorBetween};
+
+// The rank of a conversion between two kinds, if there is one.
+pub enum Rank {
+    At(u8),
+    Never,
+}
+
+// A literal converted without a constructor: its payload, or that it does not fit.
+pub enum Converted {
+    To(u64),
+    Unfit,
+}
+
+// What a scalar constructor makes of a literal: the payload; or a refusal. `paper` gives each its number.
+pub enum Made {
+    Of(u64),
+    NoStage,
+    NoTarget,
+    NoArgument,
+    Abstract,
+    Integer,
+    Float,
+}
+
+// The stage of an evaluation (`ShaderStage` of the source), by its number. The numbers are written once, here.
+pub struct Stage;
+
+impl Stage {
+    pub const CONST: u8 = 0;
+
+    pub const OVERRIDE: u8 = 1;
+
+    pub const EXEC: u8 = 2;
+}
+
+// ---- ranks
+
+// "a type converts to itself (rank 0)"
+fn rank_of_same(from: u8, to: u8) -> Rank
+    ensures { λ r. ⌜ r ≡ rankOf (cond (eqb from to) (some 0) none) ⌝ }
+{
+    if from == to { Rank::At(0) } else { Rank::Never }
+}
+
+// "AbstractInt to I32 3, U32 4, AbstractFloat 5, F32 6, F16 7"
+fn rank_of_abstract_int(to: u8) -> Rank
+    ensures { λ r. ⌜ r ≡ rankOf (ofKind none fromAint (kindOf to)) ⌝ }
+{
+    match to {
+        Scalar::BOOL => Rank::Never,
+        Scalar::ABSTRACT_INT => Rank::At(0),
+        Scalar::ABSTRACT_FLOAT => Rank::At(5),
+        Scalar::I32 => Rank::At(3),
+        Scalar::U32 => Rank::At(4),
+        Scalar::F32 => Rank::At(6),
+        Scalar::F16 => Rank::At(7),
+        _ => Rank::Never,
+    }
+}
+
+// "AbstractFloat to F32 1, F16 2"
+fn rank_of_abstract_float(to: u8) -> Rank
+    ensures { λ r. ⌜ r ≡ rankOf (ofKind none fromAfloat (kindOf to)) ⌝ }
+{
+    match to {
+        Scalar::BOOL => Rank::Never,
+        Scalar::ABSTRACT_INT => Rank::Never,
+        Scalar::ABSTRACT_FLOAT => Rank::At(0),
+        Scalar::I32 => Rank::Never,
+        Scalar::U32 => Rank::Never,
+        Scalar::F32 => Rank::At(1),
+        Scalar::F16 => Rank::At(2),
+        _ => Rank::Never,
+    }
+}
+
+// The rank between two kinds (`conversion_rank` of conv.rs, of two scalar types). "Stage and kind choices: matches".
+pub fn kind_rank(from: u8, to: u8) -> Rank
+    ensures { λ r. ⌜ r ≡ rankOf (rankBetween from to) ⌝ }
+{
+    match from {
+        Scalar::BOOL => rank_of_same(from, to),
+        Scalar::ABSTRACT_INT => rank_of_abstract_int(to),
+        Scalar::ABSTRACT_FLOAT => rank_of_abstract_float(to),
+        Scalar::I32 => rank_of_same(from, to),
+        Scalar::U32 => rank_of_same(from, to),
+        Scalar::F32 => rank_of_same(from, to),
+        Scalar::F16 => rank_of_same(from, to),
+        _ => Rank::Never,
+    }
+}
+
+// ---- the number of a literal
+
+// Two's complement, in 64 bits.
+fn abstract_int_parts(bits: u64) -> Parts
+    ensures { λ r. ⌜ Stands (number aint bits) r ⌝ }
+{
+    if bits < 0x8000_0000_0000_0000 {
+        float::int_parts(false, bits)
+    } else {
+        float::int_parts(true, !bits + 1)
+    }
+}
+
+// The same in 32 bits; a payload of more bits has no magnitude left.
+fn i32_parts(bits: u64) -> Parts
+    ensures { λ r. ⌜ Stands (number i32 bits) r ⌝ }
+{
+    if bits < 0x8000_0000 {
+        return float::int_parts(false, bits);
+    }
+    if bits < 0x1_0000_0000 {
+        return float::int_parts(true, 0x1_0000_0000 - bits);
+    }
+    float::int_parts(true, 0)
+}
+
+// The number of a literal, by its kind.
+fn parts_of(from: u8, bits: u64) -> Parts
+    ensures { λ r. ⌜ Stands (numberOf from bits) r ⌝ }
+{
+    match from {
+        Scalar::BOOL => float::int_parts(false, bits),
+        Scalar::ABSTRACT_INT => abstract_int_parts(bits),
+        Scalar::ABSTRACT_FLOAT => float::f64_parts(bits),
+        Scalar::I32 => i32_parts(bits),
+        Scalar::U32 => float::int_parts(false, bits),
+        Scalar::F32 => float::f32_parts(bits),
+        Scalar::F16 => float::f16_parts(bits),
+        _ => Parts::Nan,
+    }
+}
+
+// ---- conversion without a constructor
+
+// A whole number, if it lies within -lo and hi.
+fn integer_within(lo: u64, hi: u64, v: Parts) -> Converted
+    requires { ⌜ (lo ≤ 2 ^ 32) × (hi < 2 ^ 32) ⌝ }
+    ensures { λ r. ⌜ r ≡ convertedOf (cond (within lo hi (meaning v)) (some (toward lo hi (meaning v))) none) ⌝ }
+{
+    if float::within(lo, hi, v) {
+        Converted::To(float::toward(lo, hi, v))
+    } else {
+        Converted::Unfit
+    }
+}
+
+// The same within the range of a kind.
+fn integer(to: u8, v: Parts) -> Converted
+    requires { ⌜ Short to ⌝ }
+    ensures { λ r. ⌜ r ≡ convertedOf (cond (inRange to (meaning v)) (some (heldIn to (meaning v))) none) ⌝ }
+{
+    let k = Scalar { kind: to };
+    integer_within(k.low_end(), k.high_end(), v)
+}
+
+// The pattern nearest to a number, if it is a finite number's.
+fn nearest(p: u64, emax: u64, w: u64, v: Parts) -> Converted
+    requires { ⌜ Layout p emax w ⌝ }
+    requires { ⌜ exponent v < 2100 ⌝ }
+    ensures { λ r. ⌜ r ≡ convertedOf (cond (Floats.finite p emax (bits p emax (meaning v))) (some (bits p emax (meaning v))) none) ⌝ }
+{
+    let b = float::assemble(p, emax, v);
+    if float::is_finite(p, emax, w, b) {
+        Converted::To(b)
+    } else {
+        Converted::Unfit
+    }
+}
+
+// "Stage and kind choices: matches": the rule for each kind that something converts to, "an integer within the target's range, a float result finite". Nothing
+// else converts to Bool and AbstractInt.
+fn convert_number(to: u8, v: Parts) -> Converted
+    requires { ⌜ exponent v < 2100 ⌝ }
+    ensures { λ r. ⌜ r ≡ convertedOf (numberTo to (meaning v)) ⌝ }
+{
+    match to {
+        Scalar::BOOL => Converted::Unfit,
+        Scalar::ABSTRACT_INT => Converted::Unfit,
+        Scalar::ABSTRACT_FLOAT => nearest(53, 1023, 11, v),
+        Scalar::I32 => integer(to, v),
+        Scalar::U32 => integer(to, v),
+        Scalar::F32 => nearest(24, 127, 8, v),
+        Scalar::F16 => nearest(11, 15, 5, v),
+        _ => Converted::Unfit,
+    }
+}
+
+// A literal of one kind as a literal of another (`convert_to` of conv.rs); "an unchanged kind keeps its bits".
+pub fn convert_literal(to: u8, from: u8, bits: u64) -> Converted
+    ensures { λ r. ⌜ r ≡ convertedOf (convBetween to from bits) ⌝ }
+{
+    match kind_rank(from, to) {
+        Rank::At(_) => {
+            if from == to {
+                Converted::To(bits)
+            } else {
+                convert_number(to, parts_of(from, bits))
+            }
+        }
+        Rank::Never => Converted::Unfit,
+    }
+}
+
+// ---- the rules of the scalar constructors
+
+// `*l != zero`: a NaN is not zero, and zero of either sign is.
+fn truth(from: u8, bits: u64) -> u64
+    ensures { λ r. ⌜ r ≡ cond (nonzero (numberOf from bits)) 1 0 ⌝ }
+{
+    if float::nonzero(parts_of(from, bits)) {
+        1
+    } else {
+        0
+    }
+}
+
+// Toward zero, held within -lo and hi.
+fn held(lo: u64, hi: u64, from: u8, bits: u64) -> u64
+    requires { ⌜ (lo ≤ 2 ^ 32) × (hi < 2 ^ 32) ⌝ }
+    ensures { λ r. ⌜ r ≡ toward lo hi (numberOf from bits) ⌝ }
+{
+    float::toward(lo, hi, parts_of(from, bits))
+}
+
+// The same within the range of a kind.
+fn held_in(to: u8, from: u8, bits: u64) -> u64
+    requires { ⌜ Short to ⌝ }
+    ensures { λ r. ⌜ r ≡ heldIn to (numberOf from bits) ⌝ }
+{
+    let k = Scalar { kind: to };
+    held(k.low_end(), k.high_end(), from, bits)
+}
+
+// "AbstractInt must fit (15)"
+fn fitting(to: u8, from: u8, bits: u64) -> Made
+    requires { ⌜ Short to ⌝ }
+    ensures { λ r. ⌜ paper r ≡ tried (cond (not (inRange to (numberOf from bits))) 15 0) (heldIn to (numberOf from bits)) ⌝ }
+{
+    match integer(to, parts_of(from, bits)) {
+        Converted::To(q) => Made::Of(q),
+        Converted::Unfit => Made::Integer,
+    }
+}
+
+// The pattern of the nearest f32.
+fn f32_bits(from: u8, bits: u64) -> u64
+    ensures { λ r. ⌜ r ≡ binary32 Floats.bits (numberOf from bits) ⌝ }
+{
+    float::assemble(24, 127, parts_of(from, bits))
+}
+
+// The pattern of an f16. "AbstractFloat and integers are rounded to f32 first, then to f16: two roundings": how f16 rounds stands here alone.
+fn f16_bits(from: u8, bits: u64) -> u64
+    ensures { λ r. ⌜ r ≡ binary16 Floats.bits (before from (numberOf from bits)) ⌝ }
+{
+    if from == Scalar::F32 {
+        return float::assemble(11, 15, parts_of(from, bits));
+    }
+    float::f32_to_f16(f32_bits(from, bits))
+}
+
+// A payload made of a number; where the stage is checked, the number must lie in the format's finite range (21).
+fn ranged(p: u64, emax: u64, checked: bool, v: Parts, made: u64) -> Made
+    requires { ⌜ Format p emax ⌝ }
+    requires { ⌜ p ≤ emax + 1 ⌝ }
+    ensures { λ r. ⌜ paper r ≡ tried (cond (checked && outside p emax (meaning v)) 21 0) made ⌝ }
+{
+    if !checked {
+        return Made::Of(made);
+    }
+    if float::outside(p, emax, v) {
+        Made::Float
+    } else {
+        Made::Of(made)
+    }
+}
+
+// The f32 and the f16 of a literal, in their range where the stage is checked.
+fn f32_ranged(checked: bool, from: u8, bits: u64) -> Made
+    ensures { λ r. ⌜ paper r ≡ tried (cond (checked && binary32 outside (numberOf from bits)) 21 0) (binary32 Floats.bits (numberOf from bits)) ⌝ }
+{
+    ranged(24, 127, checked, parts_of(from, bits), f32_bits(from, bits))
+}
+
+fn f16_ranged(checked: bool, from: u8, bits: u64) -> Made
+    ensures { λ r. ⌜ paper r ≡ tried (cond (checked && binary16 outside (numberOf from bits)) 21 0) (binary16 Floats.bits (before from (numberOf from bits))) ⌝ }
+{
+    ranged(11, 15, checked, parts_of(from, bits), f16_bits(from, bits))
+}
+
+// ---- the five scalar constructors: each takes one literal of any kind, and "the same kind keeps its bits"
+
+// `bool` of ctor.rs.
+fn bool_ctor(from: u8, bits: u64) -> Made
+    ensures { λ r. ⌜ Always bool from bits r ⌝ }
+{
+    match from {
+        Scalar::BOOL => Made::Of(bits),
+        Scalar::ABSTRACT_INT => Made::Of(truth(from, bits)),
+        Scalar::ABSTRACT_FLOAT => Made::Of(truth(from, bits)),
+        Scalar::I32 => Made::Of(truth(from, bits)),
+        Scalar::U32 => Made::Of(truth(from, bits)),
+        Scalar::F32 => Made::Of(truth(from, bits)),
+        Scalar::F16 => Made::Of(truth(from, bits)),
+        _ => Made::NoArgument,
+    }
+}
+
+// `i32` of ctor.rs. "U32 keeps its bits"; an F32 saturates at the largest f32 below 2 ^ 31, an F16 at the ends of its own range.
+fn i32_ctor(from: u8, bits: u64) -> Made
+    ensures { λ r. ⌜ Always i32 from bits r ⌝ }
+{
+    match from {
+        Scalar::BOOL => Made::Of(held_in(Scalar::I32, from, bits)),
+        Scalar::ABSTRACT_INT => fitting(Scalar::I32, from, bits),
+        Scalar::ABSTRACT_FLOAT => Made::Of(held_in(Scalar::I32, from, bits)),
+        Scalar::I32 => Made::Of(bits),
+        Scalar::U32 => Made::Of(bits),
+        Scalar::F32 => Made::Of(held(0x8000_0000, 2147483520, from, bits)),
+        Scalar::F16 => Made::Of(held_in(Scalar::F16, from, bits)),
+        _ => Made::NoArgument,
+    }
+}
+
+// `u32` of ctor.rs. "I32 keeps its bits; negative floats give 0"; an F32 saturates at the largest f32 below 2 ^ 32, an F16 at its own largest.
+fn u32_ctor(from: u8, bits: u64) -> Made
+    ensures { λ r. ⌜ Always u32 from bits r ⌝ }
+{
+    match from {
+        Scalar::BOOL => Made::Of(held_in(Scalar::U32, from, bits)),
+        Scalar::ABSTRACT_INT => fitting(Scalar::U32, from, bits),
+        Scalar::ABSTRACT_FLOAT => Made::Of(held_in(Scalar::U32, from, bits)),
+        Scalar::I32 => Made::Of(bits),
+        Scalar::U32 => Made::Of(bits),
+        Scalar::F32 => Made::Of(held(0, 4294967040, from, bits)),
+        Scalar::F16 => Made::Of(held(0, 65504, from, bits)),
+        _ => Made::NoArgument,
+    }
+}
+
+// `f32` of ctor.rs. Only an AbstractFloat is checked: no finite number of another kind lies outside f32's range.
+fn f32_ctor(checked: bool, from: u8, bits: u64) -> Made
+    ensures { λ r. ⌜ When checked f32 from bits r ⌝ }
+{
+    match from {
+        Scalar::BOOL => Made::Of(f32_bits(from, bits)),
+        Scalar::ABSTRACT_INT => Made::Of(f32_bits(from, bits)),
+        Scalar::ABSTRACT_FLOAT => f32_ranged(checked, from, bits),
+        Scalar::I32 => Made::Of(f32_bits(from, bits)),
+        Scalar::U32 => Made::Of(f32_bits(from, bits)),
+        Scalar::F32 => Made::Of(bits),
+        Scalar::F16 => Made::Of(f32_bits(from, bits)),
+        _ => Made::NoArgument,
+    }
+}
+
+// `f16` of ctor.rs. Every other kind but Bool is checked.
+fn f16_ctor(checked: bool, from: u8, bits: u64) -> Made
+    ensures { λ r. ⌜ When checked f16 from bits r ⌝ }
+{
+    match from {
+        Scalar::BOOL => Made::Of(f16_bits(from, bits)),
+        Scalar::ABSTRACT_INT => f16_ranged(checked, from, bits),
+        Scalar::ABSTRACT_FLOAT => f16_ranged(checked, from, bits),
+        Scalar::I32 => f16_ranged(checked, from, bits),
+        Scalar::U32 => f16_ranged(checked, from, bits),
+        Scalar::F32 => f16_ranged(checked, from, bits),
+        Scalar::F16 => Made::Of(bits),
+        _ => Made::NoArgument,
+    }
+}
+
+// "not constructible (abstract scalar with arguments)": 4, after the argument's 2.
+fn abstract_ctor(from: u8) -> Made
+    ensures { λ r. ⌜ paper r ≡ noCtor from ⌝ }
+{
+    let k = Scalar { kind: from };
+    if k.is_kind() {
+        Made::Abstract
+    } else {
+        Made::NoArgument
+    }
+}
+
+// ---- all of them
+
+// "Stage and kind choices: matches": the target's kind picks the constructor.
+fn construct(checked: bool, to: u8, from: u8, bits: u64) -> Made
+    ensures { λ r. ⌜ WhenTo checked to from bits r ⌝ }
+{
+    match to {
+        Scalar::BOOL => bool_ctor(from, bits),
+        Scalar::ABSTRACT_INT => abstract_ctor(from),
+        Scalar::ABSTRACT_FLOAT => abstract_ctor(from),
+        Scalar::I32 => i32_ctor(from, bits),
+        Scalar::U32 => u32_ctor(from, bits),
+        Scalar::F32 => f32_ctor(checked, from, bits),
+        Scalar::F16 => f16_ctor(checked, from, bits),
+        _ => Made::NoTarget,
+    }
+}
+
+// "Stage and kind choices: matches": the stage picks whether f32 and f16 check their range, and that stands here alone. The answers come in the order 3, 1, 2, 4,
+// then 15 and 21.
+pub fn construct_literal(stage: u8, to: u8, from: u8, bits: u64) -> Made
+    ensures { λ r. ⌜ paper r ≡ ctorBetween stage to from bits ⌝ }
+{
+    match stage {
+        Stage::CONST => construct(true, to, from, bits),
+        Stage::OVERRIDE => construct(false, to, from, bits),
+        Stage::EXEC => construct(false, to, from, bits),
+        _ => Made::NoStage,
+    }
+}
