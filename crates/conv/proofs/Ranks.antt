@@ -1,0 +1,222 @@
+-- The rank between two types by their records, and what the one argument of `conversion_rank` has to be.
+use mathlib.Core.Path.{_≡_, refl, sym, ap, _∙_, subst}
+use mathlib.Core.Option.{Option, none, some}
+use mathlib.Core.List.{List, [], _∷_, _++_, append-nil}
+use mathlib.Core.Bool.{Bool, true, false, _&&_, cond}
+use Prim.Native.Nat.{ℕ, _+_, _-_, _<_}
+use native.Mathlib.Omega.{arith}
+use lib.Dec.{T, leb, eqb, eqb-refl}
+use lib.ListN.{length, length-append}
+use lib.Seq.{take-at}
+use Rattle.meaning.specs.Kinds.{Kind, f32, kindNo, kindRank, isFloat, sameKind}
+use Rattle.meaning.specs.Scalars.{some?}
+use Rattle.meaning.specs.Trees.{Ty, Ts, Tv, Tm, Ta, Tu, Target, Of, Tr, leaf, setLeaf, sameTy}
+use Rattle.meaning.specs.Records.{tyBytes, joined, every, side, u16, shapedTy, goodTy, goodArg, goodTys}
+use Rattle.meaning.specs.Read.{readTys, readTarget}
+use Rattle.meaning.specs.Answers.{Result, ok, no, orNo, _>>=_, _>>_}
+use Rattle.meaning.specs.Convert.{rank, leafRank, converts}
+use Rattle.meaning.specs.Entries.{only, rankOne, typeTarget, rankAnswer}
+use Rattle.laws.proofs.AgreeCommon.{set-set}
+use Rattle.laws.proofs.AgreeConv.{set-same, none-some, true-of}
+use Rattle.laws.proofs.AgreeLit.{kind-back}
+use Rattle.laws.proofs.Back.{and-l, and-r}
+use Rattle.laws.proofs.Exact.{tys-exact}
+use Rattle.laws.proofs.Length.{bytes-same}
+use Rattle.laws.proofs.Same.{both, same-ty, same-refl}
+use Rattle.laws.proofs.Sound.{Bytes}
+use Rattle.kind.specs.Ends.{ofKind}
+use Rattle.literal.specs.Told.{rankOf, rankBetween}
+use Rattle.literal.specs.declared.Rank.the-variants.{At, Never}
+use Rattle.ty.specs.Targets.{sameBytes, TypeTarget}
+use Rattle.ty.specs.Heads.{leafOf}
+use Rattle.ty.specs.declared.Leaf.the-variants.{Kind as Bottom, Struct as Blocked}
+use Rattle.ty.proofs.Equal.{both-ways, bytes-path, bytes-refl, same-records}
+use Rattle.ty.proofs.Leaves.{leaf-last}
+use Rattle.ty.proofs.Targets.{whole-bytes, whole-good, of-target}
+use Rattle.conv.specs.Ranked.{Whole, front, rankRead}
+
+-- ---- the kind at the bottom, as `leaf_at` answers it
+
+pub record KindIs (k : ℕ) (o : Option Kind) : Type 0 where
+  pub kind : Kind
+  pub is : o ≡ some kind
+  pub no : k ≡ kindNo kind
+
+pub kind-is : (k : ℕ) (o : Option Kind) → Bottom k ≡ leafOf o → KindIs k o
+unfolding leafOf
+kind-is k none e = absurd (let z : _≡_ {A = ℕ} 0 1 = cc in omega arith)
+kind-is k (some j) e = record { kind = j; is = refl; no = cc }
+
+pub struct-is : (o : Option Kind) → Blocked ≡ leafOf o → o ≡ none
+unfolding leafOf
+struct-is none e = refl
+struct-is (some j) e = absurd (let z : _≡_ {A = ℕ} 0 1 = cc in omega arith)
+
+between : {j k : ℕ} (a b : Kind) → j ≡ kindNo a → k ≡ kindNo b → rankBetween j k ≡ kindRank a b
+unfolding rankBetween ofKind
+between a b e f = rw (e, f, kind-back a, kind-back b)
+
+-- ---- the shape of a type is its record but for the last byte
+
+front-of : (s f : List ℕ) (k : ℕ) → s ≡ f ++ (k ∷ []) → front s ≡ f
+front-of s f k e = ap front e ∙ take-at f (k ∷ []) (length (f ++ (k ∷ [])) - 1) (omega (arith, length-append f (k ∷ [])))
+
+-- any shape may have F32 at the bottom
+set-shaped : (t : Ty) {j : Kind} → leaf t ≡ some j → T (shapedTy t) → T (shapedTy (setLeaf f32 t))
+unfolding leaf setLeaf shapedTy isFloat sameKind kindNo
+set-shaped (Ts i) h g = g
+set-shaped (Tv n i) h g = g
+set-shaped (Tm c r i) h g = both (side c && side r) true (and-l (side c && side r) (isFloat i) g) tt
+set-shaped (Ta n t) h g = both (leb 1 n && u16 n) (shapedTy (setLeaf f32 t)) (and-l (leb 1 n && u16 n) (shapedTy t) g) (set-shaped t h (and-r (leb 1 n && u16 n) (shapedTy t) g))
+set-shaped (Tu i m) h g = absurd (none-some h)
+
+module _ {a b : List ℕ} {t u : Ty} (w : Whole a t) (v : Whole b u) where
+  equal : sameBytes a b ≡ sameTy t u
+  equal = rw (whole-bytes w, whole-bytes v) (same-records t u (w .shaped) (v .shaped))
+
+  module _ {j k : Kind} (g : leaf t ≡ some j) (h : leaf u ≡ some k) where
+    shape : sameBytes (front a) (front b) ≡ sameTy (setLeaf k t) u
+    shape =
+        let x = leaf-last t g in
+        let y = leaf-last u h in
+        let p : front a ≡ x .front = front-of a (x .front) (kindNo j) (whole-bytes w ∙ x .bytes) in
+        let q : front b ≡ y .front = front-of b (y .front) (kindNo k) (whole-bytes v ∙ y .bytes) in
+        both-ways (sameBytes (front a) (front b)) (sameTy (setLeaf k t) u)
+        (λ e.
+        let f : x .front ≡ y .front = sym p ∙ (bytes-path (front a) (front b) e ∙ q) in
+        let z : tyBytes (setLeaf f32 t) ≡ tyBytes (setLeaf f32 u) = x .other f32 ∙ (ap (λ (l : List ℕ). l ++ (kindNo f32 ∷ [])) f ∙ sym (y .other f32)) in
+        let m : setLeaf f32 t ≡ setLeaf f32 u = bytes-same (setLeaf f32 t) (setLeaf f32 u) (set-shaped t g (w .shaped)) (set-shaped u h (v .shaped)) z in
+        let n : setLeaf k t ≡ u = sym (set-set f32 k t) ∙ (ap (setLeaf k) m ∙ (set-set f32 k u ∙ set-same u k h)) in
+        subst (λ (c : Ty). T (sameTy (setLeaf k t) c)) n (same-refl (setLeaf k t)))
+        (λ e.
+        let m : tyBytes u ≡ x .front ++ (kindNo k ∷ []) = ap tyBytes (sym (same-ty (setLeaf k t) u e)) ∙ x .other k in
+        let f : x .front ≡ y .front = sym (front-of (tyBytes u) (x .front) (kindNo k) m) ∙ front-of (tyBytes u) (y .front) (kindNo k) (y .bytes) in
+        subst (λ (l : List ℕ). T (sameBytes (front a) l)) (p ∙ (f ∙ sym q)) (bytes-refl (front a)))
+
+    by-shape : {c : Bool} → c ≡ sameBytes (front a) (front b) → leafRank t u (leaf t) (leaf u) ≡ cond c (kindRank j k) none
+    unfolding leafRank
+    by-shape o = rw (g, h, sym (o ∙ shape))
+
+  -- ---- the rank, by what the code asks
+
+  pub rank-same : {r : Bool} → r ≡ sameBytes a b → r ≡ true → At 0 ≡ rankOf (rank t u)
+  unfolding rank rankOf
+  rank-same p q = rw (sym equal ∙ (sym p ∙ q))
+
+  module _ {r : Bool} (p : r ≡ sameBytes a b) (q : r ≡ false) where
+    other : rank t u ≡ leafRank t u (leaf t) (leaf u)
+    unfolding rank
+    other = rw (sym equal ∙ (sym p ∙ q))
+
+    pub rank-from-struct : Blocked ≡ leafOf (leaf t) → Never ≡ rankOf (rank t u)
+    unfolding leafRank rankOf
+    rank-from-struct e = rw (other, struct-is (leaf t) e)
+
+    module _ {j : ℕ} (e : Bottom j ≡ leafOf (leaf t)) where
+      pub rank-to-struct : Blocked ≡ leafOf (leaf u) → Never ≡ rankOf (rank t u)
+      unfolding leafRank rankOf
+      rank-to-struct f = let x = kind-is j (leaf t) e in rw (other, x .is, struct-is (leaf u) f)
+
+      module _ {k : ℕ} (f : Bottom k ≡ leafOf (leaf u)) {c : Bool} (o : c ≡ sameBytes (front a) (front b)) where
+        shaped : rank t u ≡ cond c (rankBetween j k) none
+        shaped =
+            let x = kind-is j (leaf t) e in
+            let y = kind-is k (leaf u) f in
+            other ∙ (by-shape (x .is) (y .is) o ∙ ap (λ (n : Option ℕ). cond c n none) (sym (between (x .kind) (y .kind) (x .no) (y .no))))
+
+        pub rank-shape : c ≡ true → rankOf (rankBetween j k) ≡ rankOf (rank t u)
+        rank-shape h = rw (shaped, h)
+
+        pub rank-no-shape : c ≡ false → Never ≡ rankOf (rank t u)
+        unfolding rankOf
+        rank-no-shape h = rw (shaped, h)
+
+pub some-byte : {a : List ℕ} {t : Ty} {j : ℕ} → Whole a t → Bottom j ≡ leafOf (leaf t) → 0 < length a
+some-byte {t = t} {j} w e =
+    let x = kind-is j (leaf t) e in
+    let y = leaf-last t (x .is) in
+    omega (arith, ap length (whole-bytes w ∙ y .bytes), length-append (y .front) (kindNo (x .kind) ∷ []))
+
+-- arrays of one count convert as their elements do: for a runtime-sized array, whose count is the value's
+pub array-rank : (n : ℕ) (a t : Ty) → rank (Ta n a) (Ta n t) ≡ rank a t
+unfolding rank sameTy leaf leafRank setLeaf
+array-rank n a t = rw (true-of (eqb n n) (eqb-refl n)) (ap (cond (sameTy a t) (some 0)) (go (leaf a) (leaf t)))
+  where
+    go : (o p : Option Kind) → leafRank (Ta n a) (Ta n t) o p ≡ leafRank a t o p
+    go none p = refl
+    go (some j) none = refl
+    go (some j) (some k) = rw (true-of (eqb n n) (eqb-refl n))
+
+-- ---- answers
+
+pub rank-told : (o : Option ℕ) {n : ℕ} → At n ≡ rankOf o → ok n ≡ orNo 9 o
+unfolding rankOf
+rank-told none e = absurd (let z : _≡_ {A = ℕ} 0 1 = cc in omega arith)
+rank-told (some m) {n} e = let z : n ≡ m = cc in rw z
+
+pub never-told : (o : Option ℕ) → Never ≡ rankOf o → no 9 ≡ orNo 9 o
+unfolding rankOf
+never-told none e = refl
+never-told (some m) e = absurd (let z : _≡_ {A = ℕ} 0 1 = cc in omega arith)
+
+pub rank-converts : (t u : Ty) {n : ℕ} → At n ≡ rankOf (rank t u) → true ≡ converts t u
+unfolding converts some?
+rank-converts t u e = go (rank t u) (rank-told (rank t u) e)
+  where
+    go : (o : Option ℕ) {n : ℕ} → ok n ≡ orNo 9 o → true ≡ some? o
+    go none e = absurd (let z : _≡_ {A = ℕ} 0 1 = cc in omega arith)
+    go (some m) e = refl
+
+pub never-converts : (t u : Ty) → Never ≡ rankOf (rank t u) → false ≡ converts t u
+unfolding converts some?
+never-converts t u e = go (rank t u) (never-told (rank t u) e)
+  where
+    go : (o : Option ℕ) → no 9 ≡ orNo 9 o → false ≡ some? o
+    go none e = refl
+    go (some m) e = absurd (let z : _≡_ {A = ℕ} 0 1 = cc in omega arith)
+
+module _ (s args : List ℕ) where
+  pub of-answer : {t : Ty} → readTarget s ≡ some (Of t) → rankAnswer s args ≡ rankRead (Of t) args
+  unfolding rankAnswer rankRead typeTarget
+  of-answer e = rw e
+
+  pub tr-answer : {t : Ty} → readTarget s ≡ some (Tr t) → rankAnswer s args ≡ rankRead (Tr t) args
+  unfolding rankAnswer rankRead typeTarget
+  tr-answer e = rw e
+
+  pub no-answer : {o : Option Target} → readTarget s ≡ o → (orNo 1 o >>= typeTarget) ≡ no 1 → rankAnswer s args ≡ no 1
+  unfolding rankAnswer
+  no-answer {o} e h = rw e (go o h)
+    where
+      go : (o : Option Target) → (orNo 1 o >>= typeTarget) ≡ no 1 → (orNo 1 o >>= λ g. typeTarget g >> (orNo 2 (readTys g args) >>= λ l. only l >>= rankOne g)) ≡ no 1
+      go none h = refl
+      go (some g) h = ap (λ (r : Result (Unit {0})). r >> (orNo 2 (readTys g args) >>= λ l. only l >>= rankOne g)) h
+
+-- ---- the one argument
+
+module _ (g : Target) (same : (t : Ty) → goodArg g t ≡ goodTy t) {s : List ℕ} where
+  pub one-read : (x : TypeTarget s) → rankRead g s ≡ rankOne g (x .ends .type)
+  unfolding rankRead goodTys every joined only goodTy
+  one-read x =
+      let t = x .ends .type in
+      let h : T (goodTy t) = whole-good 4096 (x .ends .stands) (omega (arith, x .most)) in
+      let k : T (goodTys g (t ∷ [])) = both (goodArg g t && true) true (both (goodArg g t) true (rw (same t) h) tt) tt in
+      let r : readTys g s ≡ some (t ∷ []) = ap (readTys g) (whole-bytes (x .ends .stands) ∙ sym (append-nil (tyBytes t))) ∙ tys-exact g .back (t ∷ []) k in
+      rw r
+
+  not-one : Bytes s → (TypeTarget s → ⊥) → (t : Ty) → readTys g s ≡ some (t ∷ []) → ⊥
+  unfolding goodTys every joined
+  not-one b f t e =
+      let y = tys-exact g .sound s (t ∷ []) b e in
+      let h : T (goodArg g t) = and-l (goodArg g t) true (and-l (goodArg g t && true) true (y .1)) in
+      f (of-target t (y .0 ∙ append-nil (tyBytes t)) (rw (same t) at h))
+
+  pub none-read : Bytes s → (TypeTarget s → ⊥) → no 2 ≡ rankRead g s
+  unfolding rankRead only
+  none-read b f = go (readTys g s) refl
+    where
+      go : (o : Option (List Ty)) → readTys g s ≡ o → no 2 ≡ (orNo 2 o >>= λ l. only l >>= rankOne g)
+      go none e = refl
+      go (some []) e = refl
+      go (some (t ∷ [])) e = absurd (not-one b f t e)
+      go (some (t ∷ u ∷ l)) e = refl

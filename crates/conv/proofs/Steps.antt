@@ -1,0 +1,226 @@
+-- One item where it stands; and what a loop over items has left.
+use mathlib.Core.Path.{_≡_, refl, sym, ap, _∙_, subst}
+use mathlib.Core.Option.{Option, none, some}
+use mathlib.Core.List.{List, [], _∷_, _++_, append-assoc}
+use mathlib.Core.Bool.{true, false}
+use Prim.Native.Nat.{ℕ, _+_, _-_, _≤_, _<_}
+use native.Mathlib.Omega.{arith}
+use lib.Dec.{T}
+use lib.ListN.{length, getD, take, drop, length-append, length-drop}
+use lib.Seq.{take-at}
+use Rattle.meaning.specs.Kinds.{Kind, kindNo, payWidth}
+use Rattle.meaning.specs.Scalars.{conv, some?}
+use Rattle.meaning.specs.Trees.{litLen}
+use Rattle.meaning.specs.Records.{‘s’, ‘v’, ‘m’, ‘a’, le, litBytes, joined, every}
+use Rattle.meaning.specs.Answers.{mapSome}
+use Rattle.laws.proofs.AgreeLit.{kind-back}
+use Rattle.laws.proofs.Back.{and-l, and-r}
+use Rattle.laws.proofs.BackVal.{lit-fits}
+use Rattle.laws.proofs.Length.{le-len, lit-len}
+use Rattle.laws.proofs.Sound.{some-inj}
+use Rattle.kind.specs.Ends.{ofKind}
+use Rattle.literal.specs.declared.Converted.{Converted}
+use Rattle.literal.specs.declared.Converted.the-variants.{To, Unfit}
+use Rattle.literal.specs.Told.{convertedOf, convBetween}
+use Rattle.ty.specs.Heads.{Sized, mostLit}
+use Rattle.ty.proofs.Places.{at-of, past}
+use Rattle.conv.specs.Writers.{Put, widthOf, literalOf, numberAt}
+use Rattle.conv.specs.Items.{Item, Literal, Vector, Matrix, Array, itemBytes, bytesOf, goodItem, convItem, ItemAt, ItemsAt, literalTo}
+use Rattle.conv.proofs.Bytes.{width-of, number-of, literal-bytes}
+
+-- ---- one item
+
+markOf : Item → ℕ
+markOf (Literal k p) = ‘s’
+markOf (Vector n) = ‘v’
+markOf (Matrix c r) = ‘m’
+markOf (Array n) = ‘a’
+
+mark-of : (s rest : List ℕ) (i : ℕ) (a : Item) → drop i s ≡ itemBytes a ++ rest → getD s (i + 1) 0 ≡ markOf a
+unfolding itemBytes litBytes markOf
+mark-of s rest i (Literal k p) h = at-of s _ i h 1
+mark-of s rest i (Vector n) h = at-of s _ i h 1
+mark-of s rest i (Matrix c r) h = at-of s _ i h 1
+mark-of s rest i (Array n) h = at-of s _ i h 1
+
+pub item-some : (a : Item) → 3 ≤ length (itemBytes a)
+unfolding itemBytes litBytes le
+item-some (Literal k p) = omega arith
+item-some (Vector n) = omega arith
+item-some (Matrix c r) = omega arith
+item-some (Array n) = omega arith
+
+-- a literal by the numbers in its record
+pub record LiteralIs (s : List ℕ) (i : ℕ) (a : Item) : Type 0 where
+  pub kind : Kind
+  pub pay : ℕ
+  pub is : a ≡ Literal kind pay
+  pub no : getD s (i + 2) 0 ≡ kindNo kind
+  pub num : numberAt s (i + 3) (payWidth kind) ≡ pay
+  pub size : length (itemBytes a) ≡ 3 + payWidth kind
+
+literal-is : (s rest : List ℕ) (i : ℕ) (a : Item) → drop i s ≡ itemBytes a ++ rest → T (goodItem a) → getD s (i + 1) 0 ≡ ‘s’ → LiteralIs s i a
+unfolding itemBytes litBytes markOf goodItem
+literal-is s rest i (Literal k p) h g m =
+    record {
+      kind = k;
+      pay = p;
+      is = refl;
+      no = at-of s _ i h 2;
+      num = number-of s rest (i + 3) (payWidth k) p (past s (86 ∷ 115 ∷ kindNo k ∷ []) (le (payWidth k) p ++ rest) i h) (lit-fits k p g);
+      size = omega (arith, le-len (payWidth k) p);
+    }
+literal-is s rest i (Vector n) h g m = absurd (omega (arith, mark-of s rest i (Vector n) h))
+literal-is s rest i (Matrix c r) h g m = absurd (omega (arith, mark-of s rest i (Matrix c r) h))
+literal-is s rest i (Array n) h g m = absurd (omega (arith, mark-of s rest i (Array n) h))
+
+vector-size : (a : Item) → markOf a ≡ ‘v’ → length (itemBytes a) ≡ 3
+unfolding itemBytes markOf
+vector-size (Literal k p) m = absurd (omega arith)
+vector-size (Vector n) m = refl
+vector-size (Matrix c r) m = absurd (omega arith)
+vector-size (Array n) m = absurd (omega arith)
+
+other-size : (a : Item) → (markOf a ≡ ‘s’ → ⊥) → (markOf a ≡ ‘v’ → ⊥) → length (itemBytes a) ≡ 4
+unfolding itemBytes markOf le
+other-size (Literal k p) m n = absurd (m refl)
+other-size (Vector n) m n′ = absurd (n′ refl)
+other-size (Matrix c r) m n = refl
+other-size (Array n) m n′ = refl
+
+stays : (a : Item) (k : Kind) → (markOf a ≡ ‘s’ → ⊥) → convItem k a ≡ some a
+unfolding markOf convItem
+stays (Literal j p) k m = absurd (m refl)
+stays (Vector n) k m = refl
+stays (Matrix c r) k m = refl
+stays (Array n) k m = refl
+
+module _ {s : List ℕ} {i : ℕ} {a : Item} (w : ItemAt s i a) where
+  mark-is : getD s (i + 1) 0 ≡ markOf a
+  mark-is = mark-of s (w .rest) i a (w .here)
+
+  pub item-within : i + length (itemBytes a) ≤ length s
+  item-within = omega (arith, length-drop i s, ap length (w .here), length-append (itemBytes a) (w .rest), item-some a)
+
+  pub item-front : i + 3 ≤ length s
+  item-front = omega (arith, item-within, item-some a)
+
+  pub literal-here : getD s (i + 1) 0 ≡ ‘s’ → LiteralIs s i a
+  literal-here m = literal-is s (w .rest) i a (w .here) (w .good) m
+
+  -- ---- where it ends
+
+  pub literal-end : getD s (i + 1) 0 ≡ ‘s’ → {r : ℕ} → Sized (getD s (i + 2) 0) litLen mostLit r → i + r ≡ i + length (itemBytes a)
+  unfolding litLen
+  literal-end m z = let x = literal-here m in omega (arith, z .is (x .kind) (x .no), x .size)
+
+  pub vector-end : getD s (i + 1) 0 ≡ ‘v’ → i + 3 ≡ i + length (itemBytes a)
+  vector-end m = omega (arith, vector-size a (sym mark-is ∙ m))
+
+  pub other-end : (getD s (i + 1) 0 ≡ ‘s’ → ⊥) → (getD s (i + 1) 0 ≡ ‘v’ → ⊥) → i + 4 ≡ i + length (itemBytes a)
+  other-end m n = omega (arith, other-size a (λ e. m (mark-is ∙ e)) (λ e. n (mark-is ∙ e)))
+
+  -- ---- a mark stays as it is
+
+  module _ (m : getD s (i + 1) 0 ≡ ‘s’ → ⊥) where
+    mark-stays : (k : Kind) → convItem k a ≡ some a
+    mark-stays k = stays a k (λ e. m (mark-is ∙ e))
+
+    pub mark-fits : (k : Kind) → true ≡ some? (convItem k a)
+    unfolding some?
+    mark-fits k = rw (mark-stays k)
+
+    pub mark-room : (k : Kind) {b : Item} {n : ℕ} → convItem k a ≡ some b → n ≡ i + length (itemBytes a) → n - i ≡ length (itemBytes b)
+    mark-room k {b} g e = let q : b ≡ a = some-inj (sym g ∙ mark-stays k) in rw q (omega arith)
+
+    pub mark-put : {out out′ : List ℕ} {to r n : ℕ} (k : Kind) {b : Item} → convItem k a ≡ some b → n ≡ i + length (itemBytes a) → Put out to (take (n - i) (drop i s)) r out′ → Put out to (itemBytes b) r out′
+    mark-put {out} {out′} {to} {r} {n} k {b} g e y =
+        let q : b ≡ a = some-inj (sym g ∙ mark-stays k) in
+        let z : n - i ≡ length (itemBytes a) = omega arith in
+        let t : take (n - i) (drop i s) ≡ itemBytes b = (rw (z, w .here) (take-at (itemBytes a) (w .rest) (length (itemBytes a)) refl)) ∙ sym (ap itemBytes q) in
+        subst (λ (l : List ℕ). Put out to l r out′) t y
+
+  -- ---- a literal is converted
+
+  module _ (m : getD s (i + 1) 0 ≡ ‘s’) where
+    pub literal-within : i + (3 + widthOf (getD s (i + 2) 0)) ≤ length s
+    literal-within = let x = literal-here m in rw (x .no, width-of (x .kind)) (omega (arith, item-within, x .size))
+
+    module _ {k : ℕ} (j : Kind) (n : k ≡ kindNo j) {r : Converted} (c : r ≡ literalTo k s i) where
+      literal-to : (x : LiteralIs s i a) → r ≡ convertedOf (conv j (x .kind) (x .pay))
+      unfolding convBetween ofKind
+      literal-to x = c ∙ (rw (x .no, width-of (x .kind), x .num, n, kind-back (x .kind), kind-back j))
+
+      literal-goes : (x : LiteralIs s i a) → convItem j a ≡ mapSome (Literal j) (conv j (x .kind) (x .pay))
+      unfolding convItem
+      literal-goes x = ap (convItem j) (x .is)
+
+      pub literal-fits : {p : ℕ} → r ≡ To p → true ≡ some? (convItem j a)
+      unfolding convertedOf mapSome some?
+      literal-fits {p} e = let x = literal-here m in rw (literal-goes x) (go (conv j (x .kind) (x .pay)) (sym e ∙ literal-to x))
+        where
+          go : (o : Option ℕ) → To p ≡ convertedOf o → true ≡ some? (mapSome (Literal j) o)
+          go none h = absurd (let z : _≡_ {A = ℕ} 0 1 = cc in omega arith)
+          go (some q) h = refl
+
+      pub literal-not : r ≡ Unfit → false ≡ some? (convItem j a)
+      unfolding convertedOf mapSome some?
+      literal-not e = let x = literal-here m in rw (literal-goes x) (go (conv j (x .kind) (x .pay)) (sym e ∙ literal-to x))
+        where
+          go : (o : Option ℕ) → Unfit ≡ convertedOf o → false ≡ some? (mapSome (Literal j) o)
+          go none h = refl
+          go (some q) h = absurd (let z : _≡_ {A = ℕ} 0 1 = cc in omega arith)
+
+      module _ {b : Item} (g : convItem j a ≡ some b) where
+        pub literal-into : {p : ℕ} → r ≡ To p → b ≡ Literal j p
+        unfolding convertedOf mapSome
+        literal-into {p} e = let x = literal-here m in go (conv j (x .kind) (x .pay)) (sym e ∙ literal-to x) (sym (literal-goes x) ∙ g)
+          where
+            go : (o : Option ℕ) → To p ≡ convertedOf o → mapSome (Literal j) o ≡ some b → b ≡ Literal j p
+            go none h u = absurd (let z : _≡_ {A = ℕ} 0 1 = cc in omega arith)
+            go (some q) h u = cc
+
+        pub literal-never : r ≡ Unfit → ⊥
+        unfolding some?
+        literal-never e = let z : false ≡ true = literal-not e ∙ ap some? g in let y : _≡_ {A = ℕ} 0 1 = cc in omega arith
+
+        pub literal-room : {p : ℕ} (to : ℕ) {most : ℕ} → r ≡ To p → to + length (itemBytes b) ≤ most → to + (3 + widthOf k) ≤ most
+        unfolding itemBytes litLen
+        literal-room {p} to e h = rw (n, width-of j) (omega (arith, lit-len j p, ap (λ (x : Item). length (itemBytes x)) (literal-into e)))
+
+        pub literal-put : {out out′ : List ℕ} {to t p : ℕ} → r ≡ To p → Put out to (literalOf k p) t out′ → Put out to (itemBytes b) t out′
+        unfolding itemBytes
+        literal-put {out} {out′} {to} {t} {p} e y =
+            subst (λ (l : List ℕ). Put out to l t out′) (ap (λ (z : ℕ). literalOf z p) n ∙ (literal-bytes j p ∙ ap itemBytes (sym (literal-into e)))) y
+
+-- ---- the items that are left
+
+pub record First (s : List ℕ) (i e : ℕ) (l : List Item) : Type 0 where
+  pub item : Item
+  pub others : List Item
+  pub is : l ≡ item ∷ others
+  pub stands : ItemAt s i item
+  pub rest : ItemsAt s (i + length (itemBytes item)) e others
+
+pub first-item : {s : List ℕ} {i e : ℕ} (l : List Item) → ItemsAt s i e l → i < e → First s i e l
+unfolding joined every
+first-item [] w h = absurd (omega (arith, w .size))
+first-item {s} {i} {e} (a ∷ l) w h =
+    let b : drop i s ≡ itemBytes a ++ (bytesOf l ++ drop e s) = w .here ∙ append-assoc (itemBytes a) (bytesOf l) (drop e s) in
+    record {
+      item = a;
+      others = l;
+      is = refl;
+      stands = record { rest = bytesOf l ++ drop e s; here = b; good = and-l (goodItem a) (every goodItem l) (w .good) };
+      rest = record {
+        here = past s (itemBytes a) (bytesOf l ++ drop e s) i b;
+        size = omega (arith, w .size, length-append (itemBytes a) (bytesOf l));
+        within = w .within;
+        good = and-r (goodItem a) (every goodItem l) (w .good);
+      };
+    }
+
+pub no-items : {s : List ℕ} {i e : ℕ} (l : List Item) → ItemsAt s i e l → e ≤ i → l ≡ []
+unfolding joined
+no-items [] w h = refl
+no-items (a ∷ l) w h = absurd (omega (arith, w .size, item-some a, length-append (itemBytes a) (bytesOf l)))

@@ -1,0 +1,24 @@
+-- Two stores in a row.
+use native.Mathlib.Omega.{arith}
+use borrow.Author.Needs.{needs}
+use lib.ListN.{length-set}
+use Rattle.conv.proofs.Bytes.{put-two}
+use Rattle.conv.proofs.put_mark.Statement.{statement}
+use Rattle.conv.proofs.put_mark.Tie as tie
+
+pub put-mark-spec : {M : Type 1} → statement M
+put-mark-spec =
+    tie.close
+    (tie.spec
+    -- slice-write-out
+    (λ c. search needs)
+    -- add-out
+    (λ c. search needs)
+    -- slice-write-out-2
+    (λ c. simp length-set (omega arith))
+    -- add-result
+    (λ c. search needs)
+    -- same-length
+    (λ c. search needs)
+    -- returns
+    (λ c. put-two _ (c .args .to) _ (c .args .letter)))

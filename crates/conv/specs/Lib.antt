@@ -1,0 +1,4 @@
+pub mod Ranked
+pub mod Writers
+pub mod Items
+pub mod Values

@@ -1,0 +1,40 @@
+-- One value stands there, up to the end of the bytes; or it ends before, or there is none.
+use mathlib.Core.Path.{subst}
+use borrow.Author.Needs.{needs}
+use Rattle.inst.specs.Derives.{Derives}
+use Rattle.inst.specs.declared.Derived.{Derived}
+use Rattle.convert.proofs.Ones.{derived-one, derived-more, derived-none}
+use Rattle.convert.proofs.one_value.Statement.{statement}
+use Rattle.convert.proofs.one_value.Tie as tie
+
+pub one-value-spec : {M : Type 1} → statement M
+one-value-spec =
+    tie.close
+    (tie.spec
+    -- derive-requires
+    (λ c κs. search needs)
+    -- enum-known-e
+    (λ c. search needs)
+    -- same-length
+    (λ c. search needs)
+    -- returns
+    (λ c.
+    let a = c .before .before .before .before .before .before .before .before .before .before .args in
+    let f = subst (λ (r : Derived). Derives 15 (a .args .now) 0 (a .ty .now) 0 r (c .before .before .before .before .before .before .derive .last .1 .1 .0)) (c .before .before .e .given .1) (c .before .before .before .before .before .before .derive .ensures) in
+    derived-more (a .ty .now) (c .before .before .before .before .before .before .before .before .before .before .pre) f (c .if1 .taken))
+    -- enum-told
+    (λ c. search needs)
+    -- same-length-2
+    (λ c. search needs)
+    -- returns-2
+    (λ c.
+    let a = c .before .before .before .before .before .before .before .before .before .before .args in
+    let f = subst (λ (r : Derived). Derives 15 (a .args .now) 0 (a .ty .now) 0 r (c .before .before .before .before .before .before .derive .last .1 .1 .0)) (c .before .before .e .given .1) (c .before .before .before .before .before .before .derive .ensures) in
+    derived-one (a .ty .now) (c .before .before .before .before .before .before .before .before .before .before .pre) f (c .if1 .left))
+    -- same-length-3
+    (λ c. search needs)
+    -- returns-3
+    (λ c.
+    let a = c .before .before .before .before .before .before .before .before .args in
+    let f = subst (λ (r : Derived). Derives 15 (a .args .now) 0 (a .ty .now) 0 r (c .before .before .before .before .derive .last .1 .1 .0)) (c .enum-told .given .1) (c .before .before .before .before .derive .ensures) in
+    derived-none (a .ty .now) (c .before .before .before .before .before .before .before .before .pre) f))

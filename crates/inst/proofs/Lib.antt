@@ -1,0 +1,11 @@
+pub mod Rows
+pub mod Lits
+pub mod Parts
+pub mod Starts
+pub mod ByType
+pub mod Fronts
+pub mod Writes
+pub mod Typings
+pub mod Rest
+pub mod Skips
+pub mod Has

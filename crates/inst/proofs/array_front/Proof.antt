@@ -1,0 +1,31 @@
+-- The count decides.
+use native.Mathlib.Omega.{arith}
+use Rattle.inst.proofs.Fronts.{array-only, array-fronted}
+use borrow.Author.Needs.{needs}
+use Rattle.inst.proofs.array_front.Statement.{statement}
+use Rattle.inst.proofs.array_front.Tie as tie
+
+pub array-front-spec : {M : Type 1} → statement M
+array-front-spec =
+    tie.close
+    (tie.spec
+    -- returns
+    (λ c t e w. let a = c .before .before .args in omega (arith, (array-only (a .depth) (a .s .now) (a .at) (c .before .before .pre) t e w) .deep))
+    -- room-requires
+    (λ c κs. search needs)
+    -- returns-2
+    (λ c t e w. let a = c .before .before .before .before .args in omega (arith, (array-only (a .depth) (a .s .now) (a .at) (c .before .before .before .before .pre) t e w) .room))
+    -- add-join
+    (λ c. search needs)
+    -- shared-slice-read-join
+    (λ c. search needs)
+    -- add-join-2
+    (λ c. search needs)
+    -- shared-slice-read-join-2
+    (λ c. search needs)
+    -- join-requires
+    (λ c κs. search needs)
+    -- returns-3
+    (λ c t e w. let a = c .before .before .before .before .before .before .before .before .args in let x = array-only (a .depth) (a .s .now) (a .at) (c .before .before .before .before .before .before .before .before .pre) t e w in omega (arith, x .size, x .some, c .before .join .ensures))
+    -- returns-4
+    (λ c. let a = c .before .before .before .before .before .before .before .before .args in array-fronted (a .depth) (a .s .now) (a .at) (λ i. c .before .before .before .before .before .before .before .shared-slice-known .given i .fits) (c .before .before .before .before .before .before .before .before .pre) (omega arith) (c .before .join .result) (c .before .join .ensures) (omega arith) (omega arith)))

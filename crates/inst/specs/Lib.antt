@@ -1,0 +1,4 @@
+pub mod Values
+pub mod Answers
+pub mod Derives
+pub mod Counts

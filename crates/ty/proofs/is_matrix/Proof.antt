@@ -1,0 +1,60 @@
+-- What is left after the tests of the mark, the sides and the float kind is the scalar's.
+use native.Mathlib.Omega.{arith}
+use borrow.Author.Needs.{needs}
+use Rattle.ty.proofs.Numbers.{known, unknown, decides-as}
+use Rattle.ty.proofs.is_matrix.Statement.{statement}
+use Rattle.ty.proofs.is_matrix.Tie as tie
+
+pub is-matrix-spec : {M : Type 1} → statement M
+is-matrix-spec =
+    tie.close
+    (tie.spec
+    -- returns
+    (λ c. search needs)
+    -- room-requires
+    (λ c κs. search needs)
+    -- returns-2
+    (λ c. search needs)
+    -- shared-slice-read-if3
+    (λ c. omega arith)
+    -- returns-3
+    (λ c. search needs)
+    -- add-if4
+    (λ c. omega arith)
+    -- shared-slice-read-if4
+    (λ c. omega arith)
+    -- returns-4
+    (λ c. search needs)
+    -- add-is-side
+    (λ c. omega arith)
+    -- shared-slice-read-is-side
+    (λ c. omega arith)
+    -- is-side-requires
+    (λ c κs. search needs)
+    -- returns-5
+    (λ c w. unknown (c .before .is-side .ensures) (c .if5 .taken) (w .wide))
+    -- add-is-side-2
+    (λ c. omega arith)
+    -- shared-slice-read-is-side-2
+    (λ c. omega arith)
+    -- is-side-requires-2
+    (λ c κs. search needs)
+    -- returns-6
+    (λ c w. unknown (c .before .is-side2 .ensures) (c .if6 .taken) (w .high))
+    -- add-is-float-kind
+    (λ c. omega arith)
+    -- shared-slice-read-is-float-kind
+    (λ c. omega arith)
+    -- is-float-kind-requires
+    (λ c κs. search needs)
+    -- returns-7
+    (λ c w. unknown (c .before .is-float-kind .ensures) (c .if7 .taken) (w .float))
+    -- add-is-scalar
+    (λ c. omega arith)
+    -- is-scalar-requires
+    (λ c κs. search needs)
+    -- returns-8
+    (λ c.
+    decides-as (c .is-scalar .result) (c .is-scalar .ensures)
+    (λ x. record { first = omega arith; second = omega arith; wide = known (c .before .before .before .before .before .before .before .before .is-side .ensures) (c .before .before .before .before .before .before .before .if5 .left); high = known (c .before .before .before .before .before .is-side2 .ensures) (c .before .before .before .before .if6 .left); scalar = x; float = known (c .before .before .is-float-kind .ensures) (c .before .if7 .left); deep = omega arith })
+    (λ w. w .scalar)))

@@ -1,0 +1,4 @@
+pub mod Stands
+pub mod Fronts
+pub mod Heads
+pub mod Targets
