@@ -6,36 +6,16 @@ use Rattle.kind.proofs.Numbers.{over}
 use Rattle.kind.proofs.Scalar.high_end.Statement.{statement}
 use Rattle.kind.proofs.Scalar.high_end.Tie as tie
 
-returns : tie.Need-returns
-unfolding ofKind kindOf high largest
-returns c = rw (c .match .keys1)
-
-returns-2 : tie.Need-returns-2
-unfolding ofKind kindOf high largest
-returns-2 c = rw (c .match .keys2)
-
-returns-3 : tie.Need-returns-3
-unfolding ofKind kindOf high largest
-returns-3 c = rw (c .match .keys3)
-
-returns-4 : tie.Need-returns-4
-unfolding ofKind kindOf high largest
-returns-4 c = rw (c .match .keys4)
-
-returns-5 : tie.Need-returns-5
-unfolding ofKind kindOf high largest
-returns-5 c = rw (c .match .keys5)
-
-returns-6 : tie.Need-returns-6
-unfolding ofKind kindOf high largest
-returns-6 c = rw (c .match .keys6)
-
-returns-7 : tie.Need-returns-7
-unfolding ofKind kindOf high largest
-returns-7 c = rw (c .match .keys7)
-
-returns-8 : tie.Need-returns-8
-returns-8 c = over 0 high (c .before .args .self .kind) (c .match .rest)
-
 pub high-end-spec : {M : Type 1} → statement M
-high-end-spec = tie.close (tie.spec returns returns-2 returns-3 returns-4 returns-5 returns-6 returns-7 returns-8)
+unfolding ofKind kindOf high largest
+high-end-spec =
+    tie.close
+    (tie.spec
+    (λ c. rw (c .match .keys1))
+    (λ c. rw (c .match .keys2))
+    (λ c. rw (c .match .keys3))
+    (λ c. rw (c .match .keys4))
+    (λ c. rw (c .match .keys5))
+    (λ c. rw (c .match .keys6))
+    (λ c. rw (c .match .keys7))
+    (λ c. over 0 high (c .before .args .self .kind) (c .match .rest)))
