@@ -1,6 +1,6 @@
 // The entries for C: numbers and byte slices only. A slice passes as a pointer and then a length.
+use call::Written;
 use conv::Ranked;
-use convert::Written;
 ghost use lib.ListN.{length};
 ghost use Rattle.meaning.specs.Entries.{rankAnswer, convertAnswer};
 ghost use Rattle.capi.specs.Numbers.{Ranks, Records};
@@ -39,6 +39,10 @@ pub extern "C" fn vireo_convert_to(target: &[u8], args: &[u8], out: &mut [u8]) -
         },
         Written::Refused(n) => Answer {
             refusal: n as u64,
+            value: 0,
+        },
+        Written::Miscount(_, _) => Answer {
+            refusal: 8,
             value: 0,
         },
     }

@@ -13,8 +13,8 @@ use Rattle.meaning.specs.Convert.{converts, convVal, convRuntime}
 use Rattle.meaning.specs.Entries.{handVal, only, convOne}
 use Rattle.ty.specs.Stands.{Stands}
 use Rattle.conv.specs.Ranked.{Whole}
-use Rattle.convert.specs.Told.{Told}
-use Rattle.convert.specs.declared.Written.{Written}
+use Rattle.call.specs.Told.{Told}
+use Rattle.call.specs.declared.Written.{Written}
 use Rattle.convert.specs.declared.Single.{Single}
 use Rattle.convert.specs.declared.Single.the-variants.{Of as One, Bad}
 

@@ -1,4 +1,5 @@
 // The entry `convert_to` of the source's conv.rs: decided first, then measured, then written.
+use call::Written;
 use inst::Derived;
 use ty::Len;
 use ty::Target;
@@ -9,14 +10,8 @@ ghost use lib.ListN.{length, take, drop};
 ghost use Rattle.meaning.specs.Entries.{convertAnswer};
 ghost use Rattle.conv.specs.Ranked.{OneType};
 ghost use Rattle.conv.specs.Writers.{Put};
-ghost use Rattle.convert.specs.Told.{Told};
+ghost use Rattle.call.specs.Told.{Told};
 ghost use Rattle.convert.specs.Asked.{Singles, SomeAsked, Converts, SomeBecomes, Writes, SomeRuntime, ConvertsRuntime, TypeTold, IsRuntime, RuntimeTold};
-
-// The answer of an entry that writes a record: its length, or the number of the refusal.
-pub enum Written {
-    Record(usize),
-    Refused(u8),
-}
 
 // The arguments are one value, whose type's record was written and ends there; or they are not.
 enum Single {

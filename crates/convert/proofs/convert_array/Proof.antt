@@ -2,7 +2,7 @@
 use mathlib.Core.Path.{refl, sym}
 use borrow.Author.Needs.{needs}
 use lib.Seq.{length-take-le}
-use Rattle.convert.proofs.Answers.{refused, told-as}
+use Rattle.call.proofs.Answers.{refused, told-as}
 use Rattle.convert.proofs.Runtimes.{mark-room, target-sizes, front-room, runtime-no, counted, counted-stands, counted-asked, counted-same}
 use Rattle.convert.proofs.convert_array.Statement.{statement}
 use Rattle.convert.proofs.convert_array.Tie as tie

@@ -3,7 +3,8 @@ use mathlib.Core.Path.{refl, sym, _∙_}
 use borrow.Author.Needs.{needs}
 use Rattle.meaning.specs.Entries.{typeTarget}
 use Rattle.ty.proofs.Targets.{meant}
-use Rattle.convert.proofs.Answers.{refused, told-as, of-answer, tr-answer, no-answer}
+use Rattle.call.proofs.Answers.{refused, told-as}
+use Rattle.convert.proofs.Answers.{of-answer, tr-answer, no-answer}
 use Rattle.convert.proofs.convert_to.Statement.{statement}
 use Rattle.convert.proofs.convert_to.Tie as tie
 

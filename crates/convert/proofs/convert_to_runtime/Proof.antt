@@ -5,7 +5,7 @@ use lib.Seq.{length-take-le}
 use Rattle.meaning.specs.Trees.{Tr}
 use Rattle.convert.specs.Asked.{Singles}
 use Rattle.convert.specs.declared.Single.{Single}
-use Rattle.convert.proofs.Answers.{refused, told-as}
+use Rattle.call.proofs.Answers.{refused, told-as}
 use Rattle.convert.proofs.Ones.{none-read, front-whole}
 use Rattle.convert.proofs.Runtimes.{runtime-read}
 use Rattle.convert.proofs.convert_to_runtime.Statement.{statement}

@@ -3,7 +3,7 @@ use mathlib.Core.Path.{sym, _∙_, subst}
 use lib.Dec.{T}
 use borrow.Author.Needs.{needs}
 use borrow.Author.Tests.{not-true, not-false}
-use Rattle.convert.proofs.Answers.{refused, told-as}
+use Rattle.call.proofs.Answers.{refused, told-as}
 use Rattle.convert.proofs.Types.{asked-to, type-no, value-no, value-goes, value-yes}
 use Rattle.convert.proofs.convert_value.Statement.{statement}
 use Rattle.convert.proofs.convert_value.Tie as tie

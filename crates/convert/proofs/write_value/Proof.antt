@@ -5,7 +5,7 @@ use borrow.Author.Needs.{needs}
 use lib.ListN.{length}
 use Rattle.meaning.specs.Records.{valBytes}
 use Rattle.ty.proofs.Lens.{is-len, long-len}
-use Rattle.convert.proofs.Answers.{refused, written}
+use Rattle.call.proofs.Answers.{refused, written}
 use Rattle.convert.proofs.Types.{room-stands, room-to, room-for, made-long, hand-yes, hand-no}
 use Rattle.convert.proofs.write_value.Statement.{statement}
 use Rattle.convert.proofs.write_value.Tie as tie

@@ -1,0 +1,3 @@
+-- answers; arguments
+pub mod Answers
+pub mod Rows

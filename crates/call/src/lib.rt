@@ -1,0 +1,38 @@
+// A call: what is answered, and the arguments, which are values in a row.
+use inst::Derived;
+ghost use mathlib.Core.Path.{_≡_};
+ghost use lib.ListN.{length};
+ghost use Rattle.call.specs.Row.{SomeArg, Skips, Types};
+
+// The answer of an entry that writes a record: the record's length, the number of the refusal, or 8 with the count wanted and the count given.
+pub enum Written {
+    Record(usize),
+    Refused(u8),
+    Miscount(usize, usize),
+}
+
+// Where an argument ends, and where the record of its type does.
+pub struct Step {
+    pub end: usize,
+    pub ty: usize,
+}
+
+// The end of the argument at i.
+pub fn next_arg(args: &[u8], i: usize) -> usize
+    requires { ⌜ SomeArg (now args) i ⌝ }
+    ensures { λ r. ⌜ Skips (now (args .entry)) i r ⌝ }
+{
+    inst::value_end(args, i, 15)
+}
+
+// The type of the argument at i, whose record is written at the front of `ty`.
+pub fn next_type(args: &[u8], i: usize, ty: &mut [u8]) -> Step
+    requires { ⌜ SomeArg (now args) i ⌝ }
+    requires { ⌜ length (now ty) ≡ 4096 ⌝ }
+    ensures { λ r. ⌜ Types (now (args .entry)) i (r .end) (r .ty) (now (ty .exit)) ⌝ }
+{
+    match inst::derive(args, i, ty, 0, 15) {
+        Derived::Ends(e, q) => Step { end: e, ty: q },
+        Derived::Unfit => Step { end: i, ty: 0 },
+    }
+}
