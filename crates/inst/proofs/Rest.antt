@@ -8,6 +8,7 @@ use native.Mathlib.Omega.{arith}
 use lib.Dec.{T, leb, le→leb, leb→le}
 use lib.ListN.{length, drop, length-drop, length-append, length-map}
 use lib.Seq.{drop-length}
+use Rattle.meaning.specs.Kinds.{Kind}
 use Rattle.meaning.specs.Trees.{Ty, Val, Target, Of, Tr, Qa, Qv, Qm, typeOf, depth}
 use Rattle.meaning.specs.Records.{tyBytes, valBytes, joined, every, shapedTy, shapedVal, goodWithin, goodTy, goodVal, goodArg, goodTys, goodArgs}
 use Rattle.meaning.specs.Read.{pTy, pVal, readTys, readVals}
@@ -18,8 +19,14 @@ use Rattle.laws.proofs.Sound.{All, Bytes}
 use Rattle.laws.proofs.Exact.{Exactly, vals-exact, tys-exact}
 use Rattle.ty.specs.Stands.{Stands}
 use Rattle.ty.proofs.Places.{past}
-use Rattle.inst.specs.Values.{Typed}
-use Rattle.inst.specs.Counts.{isQa, depthFor, bytesFor, argsOf, Rests, ValueArg, TypeArg, Counts}
+use Rattle.ty.specs.Fronts.{kindNumber}
+use Rattle.ty.proofs.Numbers.{is-number}
+use Rattle.inst.specs.Values.{Fits, Typed}
+use Rattle.inst.specs.Answers.{Told}
+use Rattle.inst.specs.Derives.{LeafFront}
+use Rattle.inst.specs.declared.ValueEnd.{ValueEnd}
+use Rattle.inst.specs.declared.ValueEnd.the-variants.{At, Bad as Unended}
+use Rattle.inst.specs.Counts.{isQa, depthFor, bytesFor, argsOf, Rests, Left, ValueArg, TypeArg, Counts, Flat, FlatIs, FlatLeft}
 use Rattle.inst.specs.declared.Args.{Args}
 use Rattle.inst.specs.declared.Args.the-variants.{Count, Bad}
 
@@ -75,17 +82,10 @@ module _ {A : Type 0} (write : A → List ℕ) (P : A → Type 0) (s : List ℕ)
               let j : i + length (write y) ≡ e = ap (λ (v : A). i + length (write v)) z ∙ sym q in
               record { items = l; here = rw j at (past s (write y) (joined write l) i f); each = b .1; count = omega arith }
 
-  -- what is left when n were read: the number of all is n more
-  pub record Left (i n : ℕ) : Type 0 where
-    pub within : i ≤ length s
-    pub few : n ≤ 65535
-    pub more : (k : ℕ) → Rests write P s i k → Rests write P s 0 (n + k)
-    pub less : (k : ℕ) → Rests write P s 0 k → (n ≤ k) × Rests write P s i (k - n)
-
-  pub left-all : Left 0 0
+  pub left-all : Left write P s 0 0
   left-all = record { within = omega arith; few = omega arith; more = λ k w. (let j : 0 + k ≡ k = omega arith in rw j w); less = λ k w. (omega arith, (let j : k - 0 ≡ k = omega arith in rw j w)) }
 
-  pub left-on : Tells write P → (i n : ℕ) → Left i n → i < length s → n < 65535 → (a : A) → P a → (e : ℕ) → e ≡ i + length (write a) → e ≤ length s → drop i s ≡ write a ++ drop e s → Left e (n + 1)
+  pub left-on : Tells write P → (i n : ℕ) → Left write P s i n → i < length s → n < 65535 → (a : A) → P a → (e : ℕ) → e ≡ i + length (write a) → e ≤ length s → drop i s ≡ write a ++ drop e s → Left write P s e (n + 1)
   left-on t i n l h f a p e q b x =
       record {
         within = b;
@@ -99,7 +99,7 @@ module _ {A : Type 0} (write : A → List ℕ) (P : A → Type 0) (s : List ℕ)
             (omega arith, rw j at (rests-less i t a p e q x (k - n) h (r .1)));
       }
 
-  pub left-none : (i n : ℕ) → Left i n → length s ≤ i → Rests write P s 0 n × (n ≤ 65535)
+  pub left-none : (i n : ℕ) → Left write P s i n → length s ≤ i → Rests write P s 0 n × (n ≤ 65535)
   unfolding joined
   left-none i n l h =
       let j : i ≡ length s = omega (arith, l .within) in
@@ -107,14 +107,14 @@ module _ {A : Type 0} (write : A → List ℕ) (P : A → Type 0) (s : List ℕ)
       (rw k at (l .more 0 record { items = []; here = rw (j, drop-length s); each = tt; count = refl }), l .few)
 
   -- no more than 65,535
-  pub left-full : (i n : ℕ) → Left i n → i < length s → n ≡ 65535 → (k : ℕ) → k ≤ 65535 → Rests write P s 0 k → ⊥
+  pub left-full : (i n : ℕ) → Left write P s i n → i < length s → n ≡ 65535 → (k : ℕ) → k ≤ 65535 → Rests write P s 0 k → ⊥
   left-full i n l h f k b w =
       let r = l .less k w in
       let o = some-rests i h (k - n) (r .1) in
       omega (arith, r .0)
 
   -- none stands at i
-  pub left-bad : (i n : ℕ) → Left i n → i < length s → (Head i → ⊥) → (k : ℕ) → k ≤ 65535 → Rests write P s 0 k → ⊥
+  pub left-bad : (i n : ℕ) → Left write P s i n → i < length s → (Head i → ⊥) → (k : ℕ) → k ≤ 65535 → Rests write P s 0 k → ⊥
   left-bad i n l h f k b w = f (head i h (k - n) (l .less k w .1))
 
 -- ---- types and values
@@ -181,6 +181,25 @@ module _ (d m : ℕ) where
       let g : T (goodWithin d m (typeOf (v .value))) = subst (λ (u : Ty). T (goodWithin d m u)) (sym (v .type)) (within-of t (w .shaped) (w .deep) b) in
       left-on valBytes (ValueArg d m) s value-tells i n l h f (v .value) (v .shaped, g) e (v .size) (v .within) (v .here)
 
+-- ---- scalars, vectors and matrices
+
+module _ {s : List ℕ} {at k : ℕ} (g : Kind → Ty) (f : LeafFront 2 s at g k) where
+  pub flat-kind : T (kindNumber k)
+  flat-kind = subst (λ (n : ℕ). T (kindNumber n)) (sym (f .no)) (is-number (f .kind))
+
+  pub flat-of : (r : ValueEnd) → ((j : Kind) → length (tyBytes (g j)) ≤ 7) → Told (Fits s at (g (f .kind))) r → Flat s at r
+  flat-of (At e) h w = record { type = g (f .kind); typed = record { fits = w; shaped = f .shaped; deep = f .deep }; short = h (f .kind) }
+  flat-of Unended h w = tt
+
+-- one more was read
+pub flat-all : (s : List ℕ) → FlatLeft s 0 0
+flat-all s d m g h = left-all valBytes (ValueArg d m) s
+
+pub flat-left : {s : List ℕ} {i n e : ℕ} → FlatLeft s i n → i < length s → n < 65535 → FlatIs s i e → FlatLeft s e (n + 1)
+flat-left {s} {i} {n} {e} l h f x d m p q =
+    let w = x .typed in
+    value-left d m s i n (l d m p q) h f (x .type) e record { fits = w .fits; shaped = w .shaped; deep = omega (arith, w .deep) } (omega (arith, x .short))
+
 -- ---- the lists that may stand there are those whose records these are
 
 arg-is : (g : Target) (t : Ty) → goodArg g t ≡ goodWithin (depthFor (isQa g)) (bytesFor (isQa g)) t
@@ -194,6 +213,14 @@ arg-is (Qm c r) t = refl
 pub bytes-most : (b : Bool) → bytesFor b ≤ 4096
 bytes-most true = omega arith
 bytes-most false = omega arith
+
+pub bytes-least : (b : Bool) → 7 ≤ bytesFor b
+bytes-least true = omega arith
+bytes-least false = omega arith
+
+pub depth-least : (b : Bool) → 2 ≤ depthFor b
+depth-least true = omega arith
+depth-least false = omega arith
 
 -- each passes the test where P holds, and the other way round
 every-all : {A : Type 0} (f : A → Bool) (P : A → Type 0) → ((a : A) → T (f a) → P a) → (l : List A) → T (every f l) → All P l

@@ -16,7 +16,7 @@ ghost use Rattle.ty.specs.Fronts.{kindNumber, Decides};
 ghost use Rattle.inst.specs.Values.{Fits, Having, HavingAll, EndsAt, EndsAll};
 ghost use Rattle.inst.specs.Answers.{NumberAt, most, KindIs, Literals, LiteralAt, VectorAt, Columns, MatrixAt, Starts, pairOf, ReadAs, ReadEach, ReadAll};
 ghost use Rattle.inst.specs.Derives.{Marked, FrontIs, Put, typeFront, Derives, DerivesAll};
-ghost use Rattle.inst.specs.Counts.{isQa, depthFor, bytesFor, argsOf, Rests, ValueArg, TypeArg, Counts};
+ghost use Rattle.inst.specs.Counts.{isQa, depthFor, bytesFor, argsOf, Rests, Left, ValueArg, TypeArg, Counts, Flat, FlatLeft};
 
 // Where a value's record ends.
 pub enum ValueEnd {
@@ -626,6 +626,12 @@ pub fn value_end(s: &[u8], at: usize, depth: u8) -> usize
     }
 }
 
+// How many arguments were counted, and where the last of them ends.
+struct Counted {
+    end: usize,
+    count: usize,
+}
+
 // At most so many arguments.
 const MOST: usize = 65535;
 
@@ -648,13 +654,50 @@ fn bytes_for(tight: bool) -> usize
     4096
 }
 
-// Counts the values that s is, each with a type of that depth and that many bytes at most. The types are derived into `ty`.
-fn count_values(s: &[u8], ty: &mut [u8], depth: u8, most: usize) -> Args
-    requires { ⌜ most ≤ length (now ty) ⌝ }
-    ensures { λ r. ⌜ Counts (Rests valBytes (ValueArg depth most) (now (s .entry)) 0) r ⌝ }
+// The end of the scalar, vector or matrix that stands at `at`. What such a value's type is follows from its first bytes, so its record need not be written.
+fn flat_end(s: &[u8], at: usize) -> ValueEnd
+    ensures { λ r. ⌜ Flat (now (s .entry)) at r ⌝ }
+{
+    match front_at(s, at, 2) {
+        Front::Scalar(k) => literal_as(s, at, k),
+        Front::Vector(n, k) => vector_as(s, at, n, k),
+        Front::Matrix(c, r, k) => matrix_as(s, at, c, r, k),
+        Front::Array(_) => ValueEnd::Bad,
+        Front::Struct(_, _) => ValueEnd::Bad,
+        Front::Neither => ValueEnd::Bad,
+    }
+}
+
+// The scalars, vectors and matrices that s begins with: all of the arguments, as a rule, and then no room for types is needed.
+fn flat_args(s: &[u8]) -> Counted
+    ensures { λ r. ⌜ FlatLeft (now (s .entry)) (r .end) (r .count) ⌝ }
 {
     let mut i = 0;
     let mut n: usize = 0;
+    while i < s.len() {
+        if n == MOST {
+            return Counted { end: i, count: n };
+        }
+        match flat_end(s, i) {
+            ValueEnd::At(e) => {
+                i = e;
+            }
+            ValueEnd::Bad => {
+                return Counted { end: i, count: n };
+            }
+        }
+        n += 1;
+    }
+    Counted { end: i, count: n }
+}
+
+// Counts the values that s is, of which `before` end at `from`, each with a type of that depth and that many bytes at most. The types are derived into `ty`.
+fn count_values(s: &[u8], from: usize, before: usize, ty: &mut [u8], depth: u8, most: usize) -> Args
+    requires { ⌜ (most ≤ length (now ty)) × Left valBytes (ValueArg depth most) (now s) from before ⌝ }
+    ensures { λ r. ⌜ Counts (Rests valBytes (ValueArg depth most) (now (s .entry)) 0) r ⌝ }
+{
+    let mut i = from;
+    let mut n = before;
     while i < s.len() {
         if n == MOST {
             return Args::Bad;
@@ -673,6 +716,15 @@ fn count_values(s: &[u8], ty: &mut [u8], depth: u8, most: usize) -> Args
         n += 1;
     }
     Args::Count(n)
+}
+
+// Counts the rest of the arguments, with room for their types.
+fn other_args(s: &[u8], from: usize, before: usize, depth: u8, most: usize) -> Args
+    requires { ⌜ (most ≤ 4096) × Left valBytes (ValueArg depth most) (now s) from before ⌝ }
+    ensures { λ r. ⌜ Counts (Rests valBytes (ValueArg depth most) (now (s .entry)) 0) r ⌝ }
+{
+    let mut ty = [0u8; 4096];
+    count_values(s, from, before, &mut ty, depth, most)
 }
 
 // Counts the types that s is.
@@ -705,8 +757,11 @@ fn count_types(s: &[u8], depth: u8, most: usize) -> Args
 pub fn value_args(s: &[u8], tight: bool) -> Args
     ensures { λ r. ⌜ ((g : Target) → isQa g ≡ tight → r ≡ argsOf (readVals g (now (s .entry)))) ⌝ }
 {
-    let mut ty = [0u8; 4096];
-    count_values(s, &mut ty, depth_for(tight), bytes_for(tight))
+    let flat = flat_args(s);
+    if flat.end == s.len() {
+        return Args::Count(flat.count);
+    }
+    other_args(s, flat.end, flat.count, depth_for(tight), bytes_for(tight))
 }
 
 // The same of typing, whose arguments are types.

@@ -8,8 +8,8 @@ use Rattle.meaning.specs.Records.{tyBytes}
 use Rattle.ty.specs.Stands.{Ends}
 use Rattle.ty.specs.Fronts.{Told}
 use Rattle.ty.proofs.Places.{same-type}
-use Rattle.inst.specs.Counts.{TypeArg}
-use Rattle.inst.proofs.Rest.{Left, left-all, left-none, left-full, left-bad, type-head, type-left}
+use Rattle.inst.specs.Counts.{Left, TypeArg}
+use Rattle.inst.proofs.Rest.{left-all, left-none, left-full, left-bad, type-head, type-left}
 use borrow.Author.Needs.{needs}
 use Rattle.inst.proofs.count_types.Statement.{statement}
 use Rattle.inst.proofs.count_types.Tie as tie

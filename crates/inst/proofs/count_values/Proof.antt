@@ -6,19 +6,19 @@ use lib.ListN.{length}
 use Rattle.meaning.specs.Trees.{Ty}
 use Rattle.meaning.specs.Records.{valBytes, tyBytes}
 use Rattle.inst.specs.Derives.{Derives}
-use Rattle.inst.specs.Counts.{ValueArg}
+use Rattle.inst.specs.Counts.{Left, ValueArg}
 use Rattle.inst.specs.declared.Derived.{Derived}
 use Rattle.inst.proofs.Typings.{same-typed}
-use Rattle.inst.proofs.Rest.{Left, left-all, left-none, left-full, left-bad, value-head, value-left}
+use Rattle.inst.proofs.Rest.{left-none, left-full, left-bad, value-head, value-left}
 use borrow.Author.Needs.{needs}
 use Rattle.inst.proofs.count_values.Statement.{statement}
 use Rattle.inst.proofs.count_values.Tie as tie
 
 abbrev Inv : tie.InvT-loop
-Inv s ty₀ depth most i₀ n₀ ty i n = (length ty ≡ length ty₀) × Left valBytes (ValueArg depth most) s i n
+Inv s from before ty₀ depth most i₀ n₀ ty i n = (length ty ≡ length ty₀) × Left valBytes (ValueArg depth most) s i n
 
 abbrev μ : tie.MeasureT-loop
-μ s ty₀ depth most i₀ n₀ ty i n = 65535 - n
+μ s from before ty₀ depth most i₀ n₀ ty i n = 65535 - n
 
 pub count-values-spec : {M : Type 1} → statement M
 count-values-spec =
@@ -27,7 +27,7 @@ count-values-spec =
     Inv
     μ
     -- loop-holds
-    (λ c. let a = c .before .before .args in (refl, left-all valBytes (ValueArg (a .depth) (a .most)) (a .s .now)))
+    (λ c. (refl, c .before .before .pre .1))
     -- same-length
     (λ c. c .before .before .loop .inv .0)
     -- returns
@@ -58,7 +58,7 @@ count-values-spec =
     let l = c .before .before .before .before .before .before .before .before .loop in
     let f = subst (λ (r : Derived). Derives (a .depth) (a .s .now) (l .i) (l .ty) 0 r (c .before .before .before .before .derive .last .1 .1 .0)) (c .enum-told .given .1) (c .before .before .before .before .derive .ensures) in
     left-bad valBytes (ValueArg (a .depth) (a .most)) (a .s .now) (l .i) (l .n) (l .inv .1) (c .before .before .before .before .before .before .before .loop-test .taken)
-    (λ h. let v = value-head (a .depth) (a .most) (a .s .now) (l .i) h in omega (arith, f (v .type) (v .end) (v .typed), v .short, c .before .before .before .before .before .before .before .before .before .before .before .pre, l .inv .0)))
+    (λ h. let v = value-head (a .depth) (a .most) (a .s .now) (l .i) h in omega (arith, f (v .type) (v .end) (v .typed), v .short, c .before .before .before .before .before .before .before .before .before .before .before .pre .0, l .inv .0)))
     -- add-n
     (λ c. record { fits = omega (arith, c .before .before .before .before .before .before .before .before .before .before .loop .inv .1 .few) })
     -- loop-less

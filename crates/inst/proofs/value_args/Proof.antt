@@ -1,9 +1,11 @@
--- The limits are the target's.
+-- The limits are the target's; scalars, vectors and matrices are within all of them.
 use mathlib.Core.Path.{sym, subst}
 use mathlib.Core.Bool.{Bool}
+use native.Mathlib.Omega.{arith}
 use Rattle.meaning.specs.Records.{valBytes}
-use Rattle.inst.specs.Counts.{depthFor, bytesFor, Rests, ValueArg, Counts}
-use Rattle.inst.proofs.Rest.{bytes-most, values-read}
+use Rattle.inst.specs.Counts.{isQa, depthFor, bytesFor, Rests, ValueArg, Counts}
+use Rattle.inst.specs.declared.Args.the-variants.{Count}
+use Rattle.inst.proofs.Rest.{bytes-most, depth-least, bytes-least, left-none, values-read}
 use borrow.Author.Needs.{needs}
 use Rattle.inst.proofs.value_args.Statement.{statement}
 use Rattle.inst.proofs.value_args.Tie as tie
@@ -12,16 +14,23 @@ pub value-args-spec : {M : Type 1} → statement M
 value-args-spec =
     tie.close
     (tie.spec
-    -- slice-aggregate-count-values
-    (λ c. search needs)
+    -- flat-args-requires
+    (λ c κs. search needs)
+    -- returns
+    (λ c g q.
+    let s = c .before .before .before .before .args .s .now in
+    let f = c .before .before .flat-args .ensures (depthFor (isQa g)) (bytesFor (isQa g)) (depth-least (isQa g)) (bytes-least (isQa g)) in
+    values-read g s (λ i. c .before .before .before .shared-slice-known .given i .fits) (Count _) (left-none valBytes (ValueArg (depthFor (isQa g)) (bytesFor (isQa g))) s _ _ f (omega (arith, c .if1 .taken))))
     -- depth-for-requires
     (λ c κs. search needs)
     -- bytes-for-requires
     (λ c κs. search needs)
-    -- count-values-requires
-    (λ c κs. rw (c .bytes-for .ensures) (bytes-most (c .before .before .before .before .args .tight)))
-    -- returns
+    -- other-args-requires
+    (λ c κs.
+    let t = c .before .before .before .before .before .before .args .tight in
+    rw (c .before .depth-for .ensures, c .bytes-for .ensures) (bytes-most t, c .before .before .before .before .flat-args .ensures (depthFor t) (bytesFor t) (depth-least t) (bytes-least t)))
+    -- returns-2
     (λ c g q.
-    let a = c .before .before .before .before .before .before .args in
-    values-read g (a .s .now) (λ i. c .before .before .before .before .before .shared-slice-known .given i .fits) (c .before .count-values .result)
-    (subst (λ (t : Bool). Counts (Rests valBytes (ValueArg (depthFor t) (bytesFor t)) (a .s .now) 0) (c .before .count-values .result)) (sym q) (rw (c .before .before .before .depth-for .ensures, c .before .before .bytes-for .ensures) at (c .before .count-values .ensures)))))
+    let s = c .before .before .before .before .before .before .before .args .s .now in
+    values-read g s (λ i. c .before .before .before .before .before .before .shared-slice-known .given i .fits) (c .other-args .result)
+    (subst (λ (t : Bool). Counts (Rests valBytes (ValueArg (depthFor t) (bytesFor t)) s 0) (c .other-args .result)) (sym q) (rw (c .before .before .depth-for .ensures, c .before .bytes-for .ensures) at (c .other-args .ensures)))))

@@ -1,0 +1,115 @@
+-- From the stage, the target and the arguments that were read to the answer: "Order: 3, 1, 2, then the order above, then 22".
+use mathlib.Core.Path.{_≡_, refl, sym, ap, _∙_, subst}
+use mathlib.Core.Option.{Option, none, some}
+use mathlib.Core.List.{List, [], _∷_, map}
+use Prim.Native.Nat.{ℕ, zero, suc, _≤_, _<_}
+use native.Mathlib.Omega.{arith}
+use lib.Dec.{T, leb, leb→le}
+use lib.ListN.{length, length-map}
+use Rattle.meaning.specs.Scalars.{Stage, Const, Override, Exec}
+use Rattle.meaning.specs.Trees.{Val, Target, typeOf}
+use Rattle.meaning.specs.Records.{valBytes, joined, every, shapedVal, goodTy, goodVal, goodArg, goodTys, goodArgs}
+use Rattle.meaning.specs.Read.{readTarget, readVals}
+use Rattle.meaning.specs.Answers.{Answer, ok, no, orNo, _>>=_}
+use Rattle.meaning.specs.Build.{build}
+use Rattle.meaning.specs.Entries.{stageOf, handVal, buildAnswer}
+use Rattle.laws.proofs.Back.{and-l, and-r}
+use Rattle.laws.proofs.Sound.{All, Bytes}
+use Rattle.laws.proofs.Exact.{vals-exact}
+use Rattle.inst.specs.Counts.{ValueArg, argsOf}
+use Rattle.inst.specs.declared.Args.{Args}
+use Rattle.inst.specs.declared.Args.the-variants.{Count, Bad}
+use Rattle.call.specs.Told.{Told, Builds}
+use Rattle.call.specs.Row.{Row}
+use Rattle.call.specs.declared.Written.{Written}
+use Rattle.call.specs.declared.Written.the-variants.{Refused}
+use Rattle.call.proofs.Answers.{told-as, refused}
+use Rattle.builtin.specs.Calls.{Given, SomeGiven, BuildsOf, Answers, buildRead}
+
+-- ---- the stage
+
+pub record StageIs (n : ℕ) : Type 0 where
+  pub stage : Stage
+  pub is : stageOf n ≡ some stage
+
+pub stage-is : (n : ℕ) → n ≤ 2 → StageIs n
+unfolding stageOf
+stage-is zero h = record { stage = Const; is = refl }
+stage-is (suc zero) h = record { stage = Override; is = refl }
+stage-is (suc (suc zero)) h = record { stage = Exec; is = refl }
+stage-is (suc (suc (suc n))) h = absurd (omega arith)
+
+stage-over : (n : ℕ) → 2 < n → stageOf n ≡ none
+unfolding stageOf
+stage-over zero h = absurd (omega arith)
+stage-over (suc zero) h = absurd (omega arith)
+stage-over (suc (suc zero)) h = absurd (omega arith)
+stage-over (suc (suc (suc n))) h = refl
+
+module _ (stage : ℕ) (target args : List ℕ) (room : ℕ) where
+  -- "3 stage over 2", before all
+  pub no-stage : 2 < stage → buildAnswer stage target args room ≡ no 3
+  unfolding buildAnswer
+  no-stage h = rw (stage-over stage h)
+
+  pub no-target : {s : Stage} → stageOf stage ≡ some s → readTarget target ≡ none → buildAnswer stage target args room ≡ no 1
+  unfolding buildAnswer
+  no-target e h = rw (e, h)
+
+  pub read-answer : {s : Stage} {g : Target} → stageOf stage ≡ some s → readTarget target ≡ some g → buildAnswer stage target args room ≡ buildRead s g args room
+  unfolding buildAnswer buildRead
+  read-answer e h = rw (e, h)
+
+-- ---- the arguments
+
+good-each : (l : List Val) → T (every goodVal l) → All (ValueArg 15 4096) l
+unfolding every goodVal goodTy
+good-each [] h = tt
+good-each (v ∷ l) h =
+    let g = and-l (goodVal v) (every goodVal l) h in
+    ((and-l (shapedVal v) (goodTy (typeOf v)) g, and-r (shapedVal v) (goodTy (typeOf v)) g), good-each l (and-r (goodVal v) (every goodVal l) h))
+
+good-few : (g : Target) (l : List Val) → T (goodArgs g l) → length l ≤ 65535
+unfolding goodArgs goodTys
+good-few g l h =
+    let i = and-r (every (goodArg g) (map typeOf l)) (leb (length (map typeOf l)) 65535) (and-r (every goodVal l) (goodTys g (map typeOf l)) h) in
+    omega (arith, leb→le (length (map typeOf l)) 65535 i, length-map l typeOf)
+
+module _ (g : Target) (s : List ℕ) (b : Bytes s) where
+  pub record Reads (n : ℕ) : Type 0 where
+    pub values : List Val
+    pub reads : readVals g s ≡ some values
+    pub given : Given s n values
+
+  pub counted : {n : ℕ} → Count n ≡ argsOf (readVals g s) → Reads n
+  unfolding argsOf goodArgs
+  counted {n} q = go (readVals g s) refl q
+    where
+      go : (o : Option (List Val)) → readVals g s ≡ o → Count n ≡ argsOf o → Reads n
+      go none e q = absurd (let z : _≡_ {A = ℕ} 0 1 = cc in omega arith)
+      go (some l) e q =
+          let y = vals-exact g .sound s l b e in
+          let c : n ≡ length l = cc in
+          record {
+            values = l;
+            reads = e;
+            given = record { row = record { within = omega arith; here = y .0; each = good-each l (and-l (every goodVal l) (goodTys g (map typeOf l)) (y .1)) }; count = c; few = omega (arith, good-few g l (y .1)) };
+          }
+
+  -- "2 bad argument"
+  pub no-args : (st : Stage) (room : ℕ) → Bad ≡ argsOf (readVals g s) → buildRead st g s room ≡ no 2
+  unfolding argsOf buildRead
+  no-args st room q = rw (go (readVals g s) q)
+    where
+      go : (o : Option (List Val)) → Bad ≡ argsOf o → o ≡ none
+      go none q = refl
+      go (some l) q = absurd (let z : _≡_ {A = ℕ} 0 1 = cc in omega arith)
+
+  module _ (st : Stage) {n : ℕ} (x : Reads n) where
+    -- what is built of the arguments is the answer
+    pub read-builds : {out out′ : List ℕ} {r : Written} → BuildsOf st g s n out r out′ → Answers st g s out r out′
+    unfolding buildRead
+    read-builds f = told-as (rw (x .reads)) (f (x .values) (x .given))
+
+  pub some-given : {n : ℕ} → Reads n → SomeGiven s n
+  some-given x = record { values = x .values; given = x .given }

@@ -1,0 +1,2 @@
+-- from the bytes to the rules
+pub mod Asked

@@ -1,0 +1,63 @@
+-- What the steps of a build are asked, and what they answer.
+use mathlib.Core.Path.{_≡_}
+use mathlib.Core.Option.{Option, some}
+use mathlib.Core.List.{List, [], _∷_}
+use Prim.Native.Nat.{ℕ, _≤_}
+use lib.Dec.{T}
+use lib.ListN.{length}
+use Rattle.meaning.specs.Kinds.{Kind, kindNo}
+use Rattle.meaning.specs.Scalars.{Stage}
+use Rattle.meaning.specs.Trees.{Ty, Ts, Tv, Tm, Val, Target, Of, Tr, Qa, Qv, Qm}
+use Rattle.meaning.specs.Records.{side, goodWithin}
+use Rattle.meaning.specs.Read.{readVals}
+use Rattle.meaning.specs.Answers.{Answer, orNo, _>>=_}
+use Rattle.meaning.specs.Build.{build}
+use Rattle.meaning.specs.Entries.{stageOf, handVal}
+use Rattle.ty.specs.Stands.{Stands}
+use Rattle.conv.specs.Ranked.{Whole}
+use Rattle.call.specs.Row.{Row}
+use Rattle.call.specs.Told.{Told, Builds}
+use Rattle.call.specs.declared.Written.{Written}
+
+-- ---- the arguments, once they are read
+
+-- the n values l, one after another; "at most 65,535"
+pub record Given (args : List ℕ) (n : ℕ) (l : List Val) : Type 0 where
+  pub row : Row args 0 l
+  pub count : n ≡ length l
+  pub few : n ≤ 65535
+
+pub record SomeGiven (args : List ℕ) (n : ℕ) : Type 0 where
+  pub values : List Val
+  pub given : Given args n values
+
+-- what is built of them for a target
+abbrev pub BuildsOf : Stage → Target → List ℕ → ℕ → List ℕ → Written → List ℕ → Type 0
+BuildsOf s g args n out r out′ = (l : List Val) → Given args n l → Builds (build s g l) out r out′
+
+-- for a type whose record the target is
+abbrev pub TypeBuilt : ℕ → List ℕ → List ℕ → ℕ → List ℕ → Written → List ℕ → Type 0
+TypeBuilt stage target args n out r out′ = (s : Stage) (t : Ty) → stageOf stage ≡ some s → Whole target t → BuildsOf s (Of t) args n out r out′
+
+-- and for a scalar, a vector or a matrix, of the kind whose number k is
+abbrev pub LeafBuilt : (Kind → Ty) → ℕ → ℕ → List ℕ → ℕ → List ℕ → Written → List ℕ → Type 0
+LeafBuilt f stage k args n out r out′ = (s : Stage) (j : Kind) → stageOf stage ≡ some s → k ≡ kindNo j → BuildsOf s (Of (f j)) args n out r out′
+
+-- ---- before they are read
+
+-- what is answered once the stage and the target are
+unfoldable pub buildRead : Stage → Target → List ℕ → ℕ → Answer
+buildRead s g args room = orNo 2 (readVals g args) >>= λ l. build s g l >>= handVal room
+
+abbrev pub Answers : Stage → Target → List ℕ → List ℕ → Written → List ℕ → Type 0
+Answers s g args out r out′ = Told (buildRead s g args (length out)) out r out′
+
+abbrev pub TypeAnswers : ℕ → List ℕ → List ℕ → List ℕ → Written → List ℕ → Type 0
+TypeAnswers stage target args out r out′ = (s : Stage) (t : Ty) → stageOf stage ≡ some s → Whole target t → Answers s (Of t) args out r out′
+
+abbrev pub RuntimeAnswers : List ℕ → List ℕ → List ℕ → Written → List ℕ → Type 0
+RuntimeAnswers target args out r out′ = (s : Stage) (t : Ty) → Stands 14 target 2 t (length target) → T (goodWithin 14 4092 t) → Answers s (Tr t) args out r out′
+
+-- a shape's answer is the same at every stage
+abbrev pub ShapeAnswers : Target → List ℕ → List ℕ → Written → List ℕ → Type 0
+ShapeAnswers g args out r out′ = (s : Stage) → Answers s g args out r out′
