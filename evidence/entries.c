@@ -11,7 +11,7 @@
 #include <stdlib.h>
 #include <string.h>
 
-struct answer { uint64_t refusal, value; };
+struct answer { uint64_t refusal, value, wanted, given; };
 struct answer vireo_conversion_rank(const uint8_t *target, size_t target_len, const uint8_t *args, size_t args_len);
 struct answer vireo_convert_to(const uint8_t *target, size_t target_len, const uint8_t *args, size_t args_len, uint8_t *out, size_t out_len);
 

@@ -8,23 +8,27 @@ use Rattle.meaning.specs.Answers.{ok, no, miscount, Answer}
 use Rattle.call.specs.Told.{Told, answerOf}
 use Rattle.call.specs.declared.Written.{Written}
 use Rattle.call.specs.declared.Written.the-variants as written
-use Rattle.capi.specs.Numbers.{Records, refusalOf, valueOf}
+use Rattle.capi.specs.Numbers.{Numbers, InNumbers, Records, refusalOf, valueOf, wantedOf, givenOf}
 
-pub recorded : (a : Answer) {out out′ : List ℕ} {r : Written} (n : ℕ) → Told a out r out′ → r ≡ written.Record n → Records a out 0 n out′
-unfolding answerOf refusalOf valueOf
-recorded (ok s) n t g = let q : written.Record n ≡ written.Record (length s) = sym g ∙ t .says in record { refused = refl; given = cc; leaves = t .leaves }
-recorded (no m) n t g = absurd (let q : written.Record n ≡ written.Refused m = sym g ∙ t .says in let z : _≡_ {A = ℕ} 0 1 = cc in omega arith)
-recorded (miscount w h) n t g = absurd (let q : written.Record n ≡ written.Miscount w h = sym g ∙ t .says in let z : _≡_ {A = ℕ} 0 1 = cc in omega arith)
+pub recorded : (n : ℕ) {x : Written} → x ≡ written.Record n → InNumbers x 0 n 0 0
+unfolding answerOf refusalOf valueOf wantedOf givenOf
+recorded n g (ok s) e = let q : written.Record n ≡ written.Record (length s) = sym g ∙ e in record { refused = refl; valued = cc; wants = refl; gives = refl }
+recorded n g (no m) e = absurd (let q : written.Record n ≡ written.Refused m = sym g ∙ e in let z : _≡_ {A = ℕ} 0 1 = cc in omega arith)
+recorded n g (miscount w h) e = absurd (let q : written.Record n ≡ written.Miscount w h = sym g ∙ e in let z : _≡_ {A = ℕ} 0 1 = cc in omega arith)
 
-pub refused : (a : Answer) {out out′ : List ℕ} {r : Written} (n : ℕ) → Told a out r out′ → r ≡ written.Refused n → Records a out n 0 out′
-unfolding answerOf refusalOf valueOf
-refused (ok s) n t g = absurd (let q : written.Refused n ≡ written.Record (length s) = sym g ∙ t .says in let z : _≡_ {A = ℕ} 0 1 = cc in omega arith)
-refused (no m) n t g = let q : written.Refused n ≡ written.Refused m = sym g ∙ t .says in record { refused = cc; given = refl; leaves = t .leaves }
-refused (miscount w h) n t g = absurd (let q : written.Refused n ≡ written.Miscount w h = sym g ∙ t .says in let z : _≡_ {A = ℕ} 0 1 = cc in omega arith)
+pub refused : (n : ℕ) {x : Written} → x ≡ written.Refused n → InNumbers x n 0 0 0
+unfolding answerOf refusalOf valueOf wantedOf givenOf
+refused n g (ok s) e = absurd (let q : written.Refused n ≡ written.Record (length s) = sym g ∙ e in let z : _≡_ {A = ℕ} 0 1 = cc in omega arith)
+refused n g (no m) e = let q : written.Refused n ≡ written.Refused m = sym g ∙ e in record { refused = cc; valued = refl; wants = refl; gives = refl }
+refused n g (miscount w h) e = absurd (let q : written.Refused n ≡ written.Miscount w h = sym g ∙ e in let z : _≡_ {A = ℕ} 0 1 = cc in omega arith)
 
--- "8 carries wanted and given"
-pub miscounted : (a : Answer) {out out′ : List ℕ} {r : Written} (m n : ℕ) → Told a out r out′ → r ≡ written.Miscount m n → Records a out 8 0 out′
-unfolding answerOf refusalOf valueOf
-miscounted (ok s) m n t g = absurd (let q : written.Miscount m n ≡ written.Record (length s) = sym g ∙ t .says in let z : _≡_ {A = ℕ} 0 1 = cc in omega arith)
-miscounted (no k) m n t g = absurd (let q : written.Miscount m n ≡ written.Refused k = sym g ∙ t .says in let z : _≡_ {A = ℕ} 0 1 = cc in omega arith)
-miscounted (miscount w h) m n t g = record { refused = refl; given = refl; leaves = t .leaves }
+pub miscounted : (m n : ℕ) {x : Written} → x ≡ written.Miscount m n → InNumbers x 8 0 m n
+unfolding answerOf refusalOf valueOf wantedOf givenOf
+miscounted m n g (ok s) e = absurd (let q : written.Miscount m n ≡ written.Record (length s) = sym g ∙ e in let z : _≡_ {A = ℕ} 0 1 = cc in omega arith)
+miscounted m n g (no k) e = absurd (let q : written.Miscount m n ≡ written.Refused k = sym g ∙ e in let z : _≡_ {A = ℕ} 0 1 = cc in omega arith)
+miscounted m n g (miscount w h) e = let q : written.Miscount m n ≡ written.Miscount w h = sym g ∙ e in record { refused = refl; valued = refl; wants = cc; gives = cc }
+
+-- with the buffer
+pub told : {a : Answer} {out out′ : List ℕ} {r : Written} {refusal value wanted given : ℕ} → Told a out r out′ → InNumbers r refusal value wanted given
+    → Records a out refusal value wanted given out′
+told {a} t f = record { numbers = f a (t .says); leaves = t .leaves }

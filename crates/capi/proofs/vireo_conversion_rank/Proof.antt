@@ -6,17 +6,17 @@ use Rattle.meaning.specs.Answers.{Result, ok, no}
 use Rattle.conv.specs.Ranked.{paper}
 use Rattle.conv.specs.declared.Ranked.{Ranked}
 use Rattle.conv.specs.declared.Ranked.the-variants as ranked
-use Rattle.capi.specs.Numbers.{Ranks, refusalOf, valueOf}
+use Rattle.capi.specs.Numbers.{Ranks, refusalOf, valueOf, wantedOf, givenOf}
 use Rattle.capi.proofs.vireo_conversion_rank.Statement.{statement}
 use Rattle.capi.proofs.vireo_conversion_rank.Tie as tie
 
-accepted : {a : Result ℕ} {r : Ranked} (n : ℕ) → paper r ≡ a → r ≡ ranked.Rank n → Ranks a 0 n
-unfolding paper refusalOf valueOf
-accepted {a} n e g = let q : ok n ≡ a = sym (ap paper g) ∙ e in record { refused = ap refusalOf q; given = ap (valueOf (λ n. n)) q }
+accepted : {a : Result ℕ} {r : Ranked} (n : ℕ) → paper r ≡ a → r ≡ ranked.Rank n → Ranks a 0 n 0 0
+unfolding paper refusalOf valueOf wantedOf givenOf
+accepted {a} n e g = let q : ok n ≡ a = sym (ap paper g) ∙ e in record { refused = ap refusalOf q; valued = ap (valueOf (λ n. n)) q; wants = ap wantedOf q; gives = ap givenOf q }
 
-refused : {a : Result ℕ} {r : Ranked} (n : ℕ) → paper r ≡ a → r ≡ ranked.Refused n → Ranks a n 0
-unfolding paper refusalOf valueOf
-refused {a} n e g = let q : no n ≡ a = sym (ap paper g) ∙ e in record { refused = ap refusalOf q; given = ap (valueOf (λ n. n)) q }
+refused : {a : Result ℕ} {r : Ranked} (n : ℕ) → paper r ≡ a → r ≡ ranked.Refused n → Ranks a n 0 0 0
+unfolding paper refusalOf valueOf wantedOf givenOf
+refused {a} n e g = let q : no n ≡ a = sym (ap paper g) ∙ e in record { refused = ap refusalOf q; valued = ap (valueOf (λ n. n)) q; wants = ap wantedOf q; gives = ap givenOf q }
 
 pub vireo-conversion-rank-spec : {M : Type 1} → statement M
 vireo-conversion-rank-spec =
