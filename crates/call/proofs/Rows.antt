@@ -62,8 +62,8 @@ module _ {s : List ℕ} {i : ℕ} {v : Val} {l : List Val} (x : Row s i (v ∷ l
       let b = row-has .bytes in
       record { fits = record { value = v; here = b .here; size = b .size; within = b .within; shaped = row-shaped; type = refl }; shaped = row-type; deep = row-deep }
 
--- a record has bytes
-some-val : (v : Val) → 1 ≤ length (valBytes v)
+-- a record has a mark
+pub some-val : (v : Val) → 2 ≤ length (valBytes v)
 unfolding valBytes litBytes vecBytes
 some-val (Vs k p) = omega arith
 some-val (Vv k ps) = omega arith

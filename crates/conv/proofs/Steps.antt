@@ -123,7 +123,7 @@ module _ {s : List ℕ} {i : ℕ} {a : Item} (w : ItemAt s i a) where
   -- ---- a mark stays as it is
 
   module _ (m : getD s (i + 1) 0 ≡ ‘s’ → ⊥) where
-    mark-stays : (k : Kind) → convItem k a ≡ some a
+    pub mark-stays : (k : Kind) → convItem k a ≡ some a
     mark-stays k = stays a k (λ e. m (mark-is ∙ e))
 
     pub mark-fits : (k : Kind) → true ≡ some? (convItem k a)

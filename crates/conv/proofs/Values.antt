@@ -46,7 +46,7 @@ columns-bytes k (c ∷ cs) = rw (joined-append itemBytes (map (Literal k) c) (co
 mutual
   unfolding joined itemBytes itemsOf plain valBytes vecBytes
 
-  items-bytes : (v : Val) → T (plain v) → valBytes v ≡ bytesOf (itemsOf v)
+  pub items-bytes : (v : Val) → T (plain v) → valBytes v ≡ bytesOf (itemsOf v)
   items-bytes (Vs k p) h = sym (append-nil (litBytes k p))
   items-bytes (Vv k ps) h = ap (λ (x : List ℕ). ‘V’ ∷ ‘v’ ∷ length ps ∷ x) (lits-bytes k ps)
   items-bytes (Vm c r k ps) h = ap (λ (x : List ℕ). ‘V’ ∷ ‘m’ ∷ c ∷ r ∷ x) (columns-bytes k (columns c r ps))
@@ -79,7 +79,7 @@ columns-good k (suc c) r ps g =
 mutual
   unfolding itemsOf shapedVal every goodItem
 
-  items-good : (v : Val) → T (shapedVal v) → T (every goodItem (itemsOf v))
+  pub items-good : (v : Val) → T (shapedVal v) → T (every goodItem (itemsOf v))
   items-good (Vs k p) g = both (goodLit k p) true g tt
   items-good (Vv k ps) g = lits-good k ps g
   items-good (Vm c r k ps) g = columns-good k c r ps (and-l (every (goodLit k) ps) (eqb (length ps) (c * r)) g)
@@ -210,7 +210,7 @@ pub record Scan (k : Kind) (s : List ℕ) (from e : ℕ) (o : Option (List ℕ))
   pub stands : ItemsAt s from e items
   pub writes : convBytes k items ≡ o
 
-items-at : {s : List ℕ} {from e : ℕ} {bs : List ℕ} (l : List Item) → BytesAt s from e bs → bs ≡ bytesOf l → T (every goodItem l) → ItemsAt s from e l
+pub items-at : {s : List ℕ} {from e : ℕ} {bs : List ℕ} (l : List Item) → BytesAt s from e bs → bs ≡ bytesOf l → T (every goodItem l) → ItemsAt s from e l
 items-at {s} {from} {e} l w q g = let z = subst (BytesAt s from e) q w in record { here = z .here; size = z .size; within = z .within; good = g }
 
 module _ {s : List ℕ} {from e : ℕ} (k : Kind) where

@@ -191,7 +191,7 @@ pub fn copy(src: &[u8], from: usize, end: usize, out: &mut [u8], to: usize) -> u
 // ---- one item of a value's record: a literal, or a mark with its counts
 
 // Where the item that begins at i ends.
-fn item_end(src: &[u8], i: usize) -> usize
+pub fn item_end(src: &[u8], i: usize) -> usize
     requires { ⌜ SomeItem (now src) i ⌝ }
     ensures { λ r. ⌜ EndIs (now (src .entry)) i r ⌝ }
 {

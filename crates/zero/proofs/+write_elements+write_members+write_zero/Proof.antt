@@ -1,0 +1,191 @@
+-- `write_zero` calls `write_elements` and `write_members` at a depth one less, and both call it at their own depth: 2d for `write_zero` and 2d + 1 for the others.
+use mathlib.Core.Path.{_≡_, refl, sym, _∙_}
+use Prim.Native.Nat.{ℕ, _+_, _*_, _<_}
+use native.Mathlib.Omega.{arith}
+use borrow.Author.Needs.{needs}
+use lib.ListN.{length}
+use Rattle.meaning.specs.Trees.{Ty, Tys, zeroOf, zerosOf}
+use Rattle.meaning.specs.Records.{valBytes, valsBytes}
+use Rattle.ty.specs.Stands.{Stands, StandAll}
+use Rattle.zero.proofs.Left.{left-all, copies-all}
+use Rattle.zero.proofs.Zeros.{room-stands, scalar-zero-is, vector-zero-is, matrix-zero-is, whole-done, array-done, struct-done}
+use Rattle.zero.proofs.Zeros.{scalar-room, vector-room, matrix-room, array-room, array-deep, array-parts, struct-room, struct-deep, struct-parts}
+use Rattle.zero.proofs.Zeros.{EachLeft, each-room, each-on, each-end, AllLeft, all-room, all-on, all-end}
+use borrow.Fn.Kinds.{In}
+use borrow.Fn.PlainCycle.{Measures, is, falls, and}
+use Rattle.zero.proofs.write_elements.Reads as write-elements
+use Rattle.zero.proofs.write_elements.Kinds as write-elements-kinds
+use Rattle.zero.proofs.+write_elements+write_members+write_zero.Lts-write_elements as write-elements-lts
+use Rattle.zero.proofs.write_members.Reads as write-members
+use Rattle.zero.proofs.write_members.Kinds as write-members-kinds
+use Rattle.zero.proofs.+write_elements+write_members+write_zero.Lts-write_members as write-members-lts
+use Rattle.zero.proofs.write_zero.Reads as write-zero
+use Rattle.zero.proofs.write_zero.Kinds as write-zero-kinds
+use Rattle.zero.proofs.+write_elements+write_members+write_zero.Lts-write_zero as write-zero-lts
+use Rattle.ty.proofs.head_at.Reads as head-at-reads
+use Rattle.zero.proofs.put_array.Reads as put-array-reads
+use Rattle.zero.proofs.put_matrix.Reads as put-matrix-reads
+use Rattle.zero.proofs.put_struct.Reads as put-struct-reads
+use Rattle.zero.proofs.put_vector.Reads as put-vector-reads
+use Rattle.zero.proofs.put_zero.Reads as put-zero-reads
+use Rattle.zero.proofs.+write_elements+write_members+write_zero.{statement}
+use Rattle.zero.proofs.+write_elements+write_members+write_zero.Tie.{close}
+
+abbrev μ-write-elements : Measures 2 write-elements-kinds.ps ℕ
+μ-write-elements κs a = 2 * a .1 .1 .1 .0 + 1
+
+abbrev μ-write-members : Measures 2 write-members-kinds.ps ℕ
+μ-write-members κs a = 2 * a .1 .1 .1 .0 + 1
+
+abbrev μ-write-zero : Measures 2 write-zero-kinds.ps ℕ
+μ-write-zero κs a = 2 * a .1 .1 .0
+
+abbrev write-elements-at : ℕ → In 2 write-elements-kinds.ps
+write-elements-at t = and 2 write-elements-kinds.ps (is 2 write-elements-kinds.ps μ-write-elements t) write-elements.Pre
+
+abbrev write-elements-below : ℕ → In 2 write-elements-kinds.ps
+write-elements-below t = and 2 write-elements-kinds.ps (falls 2 write-elements-kinds.ps _<_ μ-write-elements t) write-elements.Pre
+
+abbrev write-members-at : ℕ → In 2 write-members-kinds.ps
+write-members-at t = and 2 write-members-kinds.ps (is 2 write-members-kinds.ps μ-write-members t) write-members.Pre
+
+abbrev write-members-below : ℕ → In 2 write-members-kinds.ps
+write-members-below t = and 2 write-members-kinds.ps (falls 2 write-members-kinds.ps _<_ μ-write-members t) write-members.Pre
+
+abbrev write-zero-at : ℕ → In 2 write-zero-kinds.ps
+write-zero-at t = and 2 write-zero-kinds.ps (is 2 write-zero-kinds.ps μ-write-zero t) write-zero.Pre
+
+abbrev write-zero-below : ℕ → In 2 write-zero-kinds.ps
+write-zero-below t = and 2 write-zero-kinds.ps (falls 2 write-zero-kinds.ps _<_ μ-write-zero t) write-zero.Pre
+
+abbrev Inv-each : write-elements-lts.InvT-loop
+Inv-each ty at n depth out₀ to end₀ p₀ left₀ out end p left =
+    (length out ≡ length out₀) × ((t : Ty) (e : ℕ) → Stands depth ty at t e → EachLeft t e n out₀ to end p left out)
+
+abbrev μ-each : write-elements-lts.MeasureT-loop
+μ-each ty at n depth out₀ to end₀ p₀ left₀ out end p left = left
+
+abbrev Inv-all : write-members-lts.InvT-loop
+Inv-all ty at n depth out₀ to i₀ p₀ left₀ out i p left =
+    (length out ≡ length out₀) × ((m : Tys) (e : ℕ) → StandAll depth ty at n m e → AllLeft depth ty m e out₀ to i p left out)
+
+abbrev μ-all : write-members-lts.MeasureT-loop
+μ-all ty at n depth out₀ to i₀ p₀ left₀ out i p left = left
+
+pub +write-elements+write-members+write-zero-spec : {M : Type 1} → statement M
++write-elements+write-members+write-zero-spec =
+    close μ-write-elements μ-write-members μ-write-zero
+    (λ t.
+    write-elements-lts.spec (write-zero-below t, write-zero.Post) (write-elements-at t) write-elements.Post Inv-each μ-each
+    -- loop-holds
+    (λ c. let a = c .before .before .args in (refl, λ u e w. record { after = λ h. absurd (omega arith); rest = copies-all (valBytes (zeroOf u)) (a .n) (a .out .now) (a .to) }))
+    -- write-zero-requires
+    (λ c κs.
+    let p = c .before .before .before .before .before .pre .1 in
+    let v = c .before .before .loop .inv in
+    (omega (arith, c .before .before .before .before .before .pre .0), each-room (p .stands) (v .1 (p .type) (p .end) (p .stands)) (omega (arith, c .before .loop-test .taken)) (omega (arith, p .room, v .0))))
+    -- sub-left
+    (λ c. omega arith)
+    -- loop-less
+    (λ c. omega arith)
+    -- loop-again
+    (λ c.
+    let v = c .before .before .before .before .before .loop .inv in
+    (c .before .before .write-zero .kept .1 .1 .1 .0 ∙ v .0, λ u e w. each-on w (v .1 u e w) (omega (arith, c .before .before .before .before .loop-test .taken)) (c .before .before .write-zero .ensures)))
+    -- same-length
+    (λ c. c .before .loop .inv .0)
+    -- returns
+    (λ c u e w. each-end w (c .before .loop .inv .1 u e w) (c .before .before .before .before .pre .1 .some) (omega arith)))
+    (λ t.
+    write-members-lts.spec (write-zero-below t, write-zero.Post) (write-members-at t) write-members.Post Inv-all μ-all
+    -- loop-holds
+    (λ c. let a = c .before .before .args in (refl, λ m e w. record { types = m; stands = w; rest = left-all (a .out .now) (a .to) (valsBytes (zerosOf m)) }))
+    -- write-zero-requires
+    (λ c κs.
+    let p = c .before .before .before .before .before .pre .1 in
+    let v = c .before .before .loop .inv in
+    (omega (arith, c .before .before .before .before .before .pre .0), all-room (v .1 (p .types) (p .end) (p .stands)) (c .before .loop-test .taken) (omega (arith, p .room, v .0))))
+    -- sub-left
+    (λ c. omega arith)
+    -- loop-less
+    (λ c. omega arith)
+    -- loop-again
+    (λ c.
+    let v = c .before .before .before .before .before .loop .inv in
+    (c .before .before .write-zero .kept .1 .1 .1 .0 ∙ v .0, λ m e w. all-on (v .1 m e w) (c .before .before .before .before .loop-test .taken) (c .before .before .write-zero .ensures)))
+    -- same-length
+    (λ c. c .before .loop .inv .0)
+    -- returns
+    (λ c m e w. all-end (c .before .loop .inv .1 m e w) (omega arith)))
+    (λ t.
+    write-zero-lts.spec
+    (head-at-reads.Asked, head-at-reads.Learnt, put-zero-reads.Asked, put-zero-reads.Learnt, put-vector-reads.Asked, put-vector-reads.Learnt, put-matrix-reads.Asked, put-matrix-reads.Learnt, put-array-reads.Asked, put-array-reads.Learnt, write-elements-below t, write-elements.Post, put-struct-reads.Asked, put-struct-reads.Learnt, write-members-below t, write-members.Post)
+    (write-zero-at t) write-zero.Post
+    -- head-at-requires
+    (λ c κs. room-stands (c .before .before .pre .1))
+    -- enum-known-k
+    (λ c. search needs)
+    -- put-zero-requires
+    (λ c κs. scalar-room (c .before .before .before .before .before .before .before .pre .1) (c .before .before .before .before .head-at .ensures) (c .before .before .k .given .1))
+    -- add-t24
+    (λ c. search needs)
+    -- enum-known-n
+    (λ c. search needs)
+    -- put-vector-requires
+    (λ c κs. vector-room (c .before .before .before .before .before .before .before .pre .1) (c .before .before .before .before .head-at .ensures) (c .before .before .n .given .1))
+    -- add-t27
+    (λ c. search needs)
+    -- enum-known-c
+    (λ c. search needs)
+    -- put-matrix-requires
+    (λ c κs. matrix-room (c .before .before .before .before .before .before .before .pre .1) (c .before .before .before .before .head-at .ensures) (c .before .before .c .given .1))
+    -- add-t30
+    (λ c. search needs)
+    -- enum-known-n-2
+    (λ c. search needs)
+    -- put-array-requires
+    (λ c κs. array-room (c .before .before .before .before .before .before .before .pre .1) (c .before .before .before .before .head-at .ensures) (c .before .before .n2 .given .1))
+    -- add-write-elements
+    (λ c. search needs)
+    -- sub-write-elements
+    (λ c. array-deep (c .before .before .before .before .before .before .before .before .before .before .pre .1) (c .before .before .before .before .before .before .before .head-at .ensures) (c .before .before .before .before .before .n2 .given .1))
+    -- write-elements-requires
+    (λ c κs.
+    let p = c .before .before .before .before .before .before .before .before .before .before .before .pre .1 in
+    let h = c .before .before .before .before .before .before .before .before .head-at .ensures in
+    let e = c .before .before .before .before .before .before .n2 .given .1 in
+    (omega (arith, c .before .before .before .before .before .before .before .before .before .before .before .pre .0, array-deep p h e), array-parts p h e (c .before .before .before .put-array .ensures) (c .before .before .before .put-array .kept .1 .0)))
+    -- enum-known-i
+    (λ c. search needs)
+    -- put-struct-requires
+    (λ c κs. struct-room (c .before .before .before .before .before .before .before .pre .1) (c .before .before .before .before .head-at .ensures) (c .before .before .i .given .1))
+    -- add-write-members
+    (λ c. search needs)
+    -- sub-write-members
+    (λ c. struct-deep (c .before .before .before .before .before .before .before .before .before .before .pre .1) (c .before .before .before .before .before .before .before .head-at .ensures) (c .before .before .before .before .before .i .given .1))
+    -- write-members-requires
+    (λ c κs.
+    let p = c .before .before .before .before .before .before .before .before .before .before .before .pre .1 in
+    let h = c .before .before .before .before .before .before .before .before .head-at .ensures in
+    let e = c .before .before .before .before .before .before .i .given .1 in
+    (omega (arith, c .before .before .before .before .before .before .before .before .before .before .before .pre .0, struct-deep p h e), struct-parts p h e (c .before .before .before .put-struct .ensures) (c .before .before .before .put-struct .kept .1 .1 .0)))
+    -- same-length
+    (λ c. c .before .before .put-zero .kept .1 .0)
+    -- returns
+    (λ c u e w. whole-done w (scalar-zero-is w (sym (c .before .before .before .before .before .k .given .1) ∙ c .before .before .before .before .before .before .before .head-at .ensures u e w)) (c .before .before .put-zero .ensures))
+    -- same-length-2
+    (λ c. c .before .before .put-vector .kept .1 .1 .0)
+    -- returns-2
+    (λ c u e w. whole-done w (vector-zero-is w (sym (c .before .before .before .before .before .n .given .1) ∙ c .before .before .before .before .before .before .before .head-at .ensures u e w)) (c .before .before .put-vector .ensures))
+    -- same-length-3
+    (λ c. c .before .before .put-matrix .kept .1 .1 .1 .0)
+    -- returns-3
+    (λ c u e w. whole-done w (matrix-zero-is w (sym (c .before .before .before .before .before .c .given .1) ∙ c .before .before .before .before .before .before .before .head-at .ensures u e w)) (c .before .before .put-matrix .ensures))
+    -- same-length-4
+    (λ c. c .before .before .write-elements .kept .1 .1 .1 .1 .0 ∙ c .before .before .before .before .before .before .put-array .kept .1 .0)
+    -- returns-4
+    (λ c u e w. array-done w (sym (c .before .before .before .before .before .before .before .before .before .n2 .given .1) ∙ c .before .before .before .before .before .before .before .before .before .before .before .head-at .ensures u e w) (c .before .before .before .before .before .before .put-array .ensures) (c .before .before .write-elements .ensures))
+    -- same-length-5
+    (λ c. c .before .before .write-members .kept .1 .1 .1 .1 .0 ∙ c .before .before .before .before .before .before .put-struct .kept .1 .1 .0)
+    -- returns-5
+    (λ c u e w. struct-done w (sym (c .before .before .before .before .before .before .before .before .before .i .given .1) ∙ c .before .before .before .before .before .before .before .before .before .before .before .head-at .ensures u e w) (c .before .before .before .before .before .before .put-struct .ensures) (c .before .before .write-members .ensures)))
