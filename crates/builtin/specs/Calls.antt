@@ -3,12 +3,10 @@ use mathlib.Core.Path.{_≡_}
 use mathlib.Core.Option.{Option, some}
 use mathlib.Core.List.{List, [], _∷_}
 use Prim.Native.Nat.{ℕ, _≤_}
-use lib.Dec.{T}
 use lib.ListN.{length}
 use Rattle.meaning.specs.Kinds.{Kind, kindNo}
 use Rattle.meaning.specs.Scalars.{Stage}
-use Rattle.meaning.specs.Trees.{Ty, Ts, Tv, Tm, Val, Target, Of, Tr, Qa, Qv, Qm}
-use Rattle.meaning.specs.Records.{side, goodWithin}
+use Rattle.meaning.specs.Trees.{Ty, Val, Target, Of, Tr}
 use Rattle.meaning.specs.Read.{readVals}
 use Rattle.meaning.specs.Answers.{Answer, orNo, _>>=_}
 use Rattle.meaning.specs.Build.{build}
@@ -31,7 +29,27 @@ pub record SomeGiven (args : List ℕ) (n : ℕ) : Type 0 where
   pub values : List Val
   pub given : Given args n values
 
--- what is built of them for a target
+-- one, and at least one
+pub record OneGiven (args : List ℕ) : Type 0 where
+  pub value : Val
+  pub row : Row args 0 (value ∷ [])
+
+pub record MoreGiven (args : List ℕ) (n : ℕ) : Type 0 where
+  pub value : Val
+  pub others : List Val
+  pub given : Given args n (value ∷ others)
+
+-- ---- the target, once it is read
+
+pub record IsKind (k : ℕ) : Type 0 where
+  pub kind : Kind
+  pub no : k ≡ kindNo kind
+
+pub record IsRuntime (target : List ℕ) : Type 0 where
+  pub type : Ty
+  pub whole : Stands 14 target 2 type (length target)
+
+-- what is built of the arguments for a target
 abbrev pub BuildsOf : Stage → Target → List ℕ → ℕ → List ℕ → Written → List ℕ → Type 0
 BuildsOf s g args n out r out′ = (l : List Val) → Given args n l → Builds (build s g l) out r out′
 
@@ -43,7 +61,14 @@ TypeBuilt stage target args n out r out′ = (s : Stage) (t : Ty) → stageOf st
 abbrev pub LeafBuilt : (Kind → Ty) → ℕ → ℕ → List ℕ → ℕ → List ℕ → Written → List ℕ → Type 0
 LeafBuilt f stage k args n out r out′ = (s : Stage) (j : Kind) → stageOf stage ≡ some s → k ≡ kindNo j → BuildsOf s (Of (f j)) args n out r out′
 
--- ---- before they are read
+-- for a runtime-sized array, and for a shape, whose answer is the same at every stage
+abbrev pub RuntimeBuilt : List ℕ → List ℕ → ℕ → List ℕ → Written → List ℕ → Type 0
+RuntimeBuilt target args n out r out′ = (s : Stage) (t : Ty) → Stands 14 target 2 t (length target) → BuildsOf s (Tr t) args n out r out′
+
+abbrev pub ShapeBuilt : Target → List ℕ → ℕ → List ℕ → Written → List ℕ → Type 0
+ShapeBuilt g args n out r out′ = (s : Stage) → BuildsOf s g args n out r out′
+
+-- ---- before the arguments are read
 
 -- what is answered once the stage and the target are
 unfoldable pub buildRead : Stage → Target → List ℕ → ℕ → Answer
@@ -56,8 +81,7 @@ abbrev pub TypeAnswers : ℕ → List ℕ → List ℕ → List ℕ → Written 
 TypeAnswers stage target args out r out′ = (s : Stage) (t : Ty) → stageOf stage ≡ some s → Whole target t → Answers s (Of t) args out r out′
 
 abbrev pub RuntimeAnswers : List ℕ → List ℕ → List ℕ → Written → List ℕ → Type 0
-RuntimeAnswers target args out r out′ = (s : Stage) (t : Ty) → Stands 14 target 2 t (length target) → T (goodWithin 14 4092 t) → Answers s (Tr t) args out r out′
+RuntimeAnswers target args out r out′ = (s : Stage) (t : Ty) → Stands 14 target 2 t (length target) → Answers s (Tr t) args out r out′
 
--- a shape's answer is the same at every stage
 abbrev pub ShapeAnswers : Target → List ℕ → List ℕ → Written → List ℕ → Type 0
 ShapeAnswers g args out r out′ = (s : Stage) → Answers s g args out r out′

@@ -13,6 +13,7 @@ use Rattle.meaning.specs.Records.{le, litBytes}
 use Rattle.laws.proofs.AgreeLit.{kind-back}
 use Rattle.laws.proofs.Sound.{Bytes}
 use Rattle.kind.specs.Ends.{ofKind}
+use Rattle.ty.specs.Fronts.{eightAt}
 use Rattle.ty.proofs.Places.{at-of, past}
 use Rattle.conv.specs.Writers.{Put, widthOf, literalOf, numberAt}
 
@@ -82,6 +83,23 @@ number-of s rest at (suc w) p h l =
     let d : drop (suc at) s ≡ le w (p / 256) ++ rest = ap (λ (i : ℕ). drop i s) (sym (add-one at)) ∙ past s (p % 256 ∷ []) (le w (p / 256) ++ rest) at h in
     let q : p / 256 < 256 ^ w = let m : p < 256 ^ w * 256 = rw pow-suc at l in omega arith in
     omega (arith, number-of s rest (suc at) w (p / 256) d q)
+
+-- eight bytes at once
+pub eight-number : (s : List ℕ) (at : ℕ) → eightAt s at ≡ numberAt s at 8
+unfolding numberAt
+eight-number s at =
+    let b : (i j : ℕ) → i ≡ j → getD s i 0 ≡ getD s j 0 = λ i j e. ap (λ (n : ℕ). getD s n 0) e in
+    omega (
+      arith,
+      b (at + 0) at (omega arith),
+      b (at + 1) (suc at) (omega arith),
+      b (at + 2) (suc (suc at)) (omega arith),
+      b (at + 3) (suc (suc (suc at))) (omega arith),
+      b (at + 4) (suc (suc (suc (suc at)))) (omega arith),
+      b (at + 5) (suc (suc (suc (suc (suc at))))) (omega arith),
+      b (at + 6) (suc (suc (suc (suc (suc (suc at)))))) (omega arith),
+      b (at + 7) (suc (suc (suc (suc (suc (suc (suc at))))))) (omega arith),
+    )
 
 -- ---- a literal by its kind's number
 

@@ -122,7 +122,7 @@ fn low(n: u64) -> u8
 }
 
 // The number that `width` bytes are, the low byte first. It is read from its top, so that each step is one product and one sum.
-pub fn get_le(src: &[u8], at: usize, width: usize) -> u64
+fn number_of(src: &[u8], at: usize, width: usize) -> u64
     requires { ⌜ (width ≤ 8) × (at + width ≤ length (now src)) ⌝ }
     ensures { λ r. ⌜ r ≡ numberAt (now (src .entry)) at width ⌝ }
 {
@@ -135,8 +135,47 @@ pub fn get_le(src: &[u8], at: usize, width: usize) -> u64
     n
 }
 
+// The same, eight bytes at once: a payload's width.
+pub fn get_le(src: &[u8], at: usize, width: usize) -> u64
+    requires { ⌜ (width ≤ 8) × (at + width ≤ length (now src)) ⌝ }
+    ensures { λ r. ⌜ r ≡ numberAt (now (src .entry)) at width ⌝ }
+{
+    if width == 8 {
+        return ty::eight(src, at);
+    }
+    number_of(src, at, width)
+}
+
+// Two bytes.
+fn put_pair(out: &mut [u8], to: usize, a: u8, b: u8) -> usize
+    requires { ⌜ to + 2 ≤ length (now out) ⌝ }
+    ensures { λ r. ⌜ Put (now (out .entry)) to (a ∷ b ∷ []) r (now (out .exit)) ⌝ }
+{
+    out[to] = a;
+    out[to + 1] = b;
+    to + 2
+}
+
+// The eight bytes of n, the low byte first. Without a loop, so that the compiler makes one store of it.
+fn put_eight(out: &mut [u8], to: usize, n: u64) -> usize
+    requires { ⌜ to + 8 ≤ length (now out) ⌝ }
+    ensures { λ r. ⌜ Put (now (out .entry)) to (le 8 n) r (now (out .exit)) ⌝ }
+{
+    let a = n / 256;
+    let b = a / 256;
+    let c = b / 256;
+    let d = c / 256;
+    let e = d / 256;
+    let f = e / 256;
+    let g = f / 256;
+    let p = put_pair(out, to, low(n), low(a));
+    let q = put_pair(out, p, low(b), low(c));
+    let t = put_pair(out, q, low(d), low(e));
+    put_pair(out, t, low(f), low(g))
+}
+
 // The `width` lowest bytes of n, the low byte first.
-pub fn put_le(out: &mut [u8], to: usize, width: usize, n: u64) -> usize
+fn put_bytes(out: &mut [u8], to: usize, width: usize, n: u64) -> usize
     requires { ⌜ to + width ≤ length (now out) ⌝ }
     ensures { λ r. ⌜ Put (now (out .entry)) to (le width n) r (now (out .exit)) ⌝ }
 {
@@ -152,14 +191,23 @@ pub fn put_le(out: &mut [u8], to: usize, width: usize, n: u64) -> usize
     i
 }
 
+// The same, eight bytes at once: a payload's width.
+pub fn put_le(out: &mut [u8], to: usize, width: usize, n: u64) -> usize
+    requires { ⌜ to + width ≤ length (now out) ⌝ }
+    ensures { λ r. ⌜ Put (now (out .entry)) to (le width n) r (now (out .exit)) ⌝ }
+{
+    if width == 8 {
+        return put_eight(out, to, n);
+    }
+    put_bytes(out, to, width, n)
+}
+
 // The mark of a value's record: `V` and a letter.
 pub fn put_mark(out: &mut [u8], to: usize, letter: u8) -> usize
     requires { ⌜ to + 2 ≤ length (now out) ⌝ }
     ensures { λ r. ⌜ Put (now (out .entry)) to (‘V’ ∷ letter ∷ []) r (now (out .exit)) ⌝ }
 {
-    out[to] = b'V';
-    out[to + 1] = letter;
-    to + 2
+    put_pair(out, to, b'V', letter)
 }
 
 // A literal's record: a mark, the kind and the payload, as wide as the kind says.

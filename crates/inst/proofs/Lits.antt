@@ -15,7 +15,8 @@ use Rattle.laws.proofs.BackVal.{number-back, lit-fits}
 use Rattle.laws.proofs.Length.{val-len}
 use Rattle.kind.specs.Ends.{ofKind, numbered}
 use Rattle.laws.proofs.AgreeLit.{kind-back}
-use Rattle.ty.specs.Fronts.{Decides}
+use Rattle.laws.proofs.Sound.{Bytes}
+use Rattle.ty.specs.Fronts.{eightAt, Decides}
 use Rattle.ty.specs.Heads.{Sized, mostLit}
 use Rattle.ty.proofs.Numbers.{decides-as, decides-test}
 use Rattle.ty.proofs.Places.{at-of, past}
@@ -72,6 +73,19 @@ payload-is : (s : List ℕ) (at w p q : ℕ) (rest : List ℕ) → NumberAt s at
 payload-is s at w p q rest n h e =
     ap (λ (o : Option (ℕ × List ℕ)). let x : ℕ = elim o [ none ↦ q | some r ↦ r .0 ] in x)
     (sym (number-back w q rest h) ∙ (ap (pNumber w) (sym e ∙ n .here) ∙ number-back w p (drop (at + w) s) (n .small)))
+
+-- eight bytes at once
+pub eight-at : (s : List ℕ) (at : ℕ) → at + 8 ≤ length s → Bytes s → NumberAt s at 8 (eightAt s at)
+eight-at s at h b =
+    let b7 : Partly s at 8 7 _ = number-more s at 8 8 0 (number-none s at 8) (omega arith) h (b (at + 7)) in
+    let b6 : Partly s at 8 6 _ = number-more s at 8 7 _ b7 (omega arith) h (b (at + 6)) in
+    let b5 : Partly s at 8 5 _ = number-more s at 8 6 _ b6 (omega arith) h (b (at + 5)) in
+    let b4 : Partly s at 8 4 _ = number-more s at 8 5 _ b5 (omega arith) h (b (at + 4)) in
+    let b3 : Partly s at 8 3 _ = number-more s at 8 4 _ b4 (omega arith) h (b (at + 3)) in
+    let b2 : Partly s at 8 2 _ = number-more s at 8 3 _ b3 (omega arith) h (b (at + 2)) in
+    let b1 : Partly s at 8 1 _ = number-more s at 8 2 _ b2 (omega arith) h (b (at + 1)) in
+    let b0 : Partly s at 8 0 _ = number-more s at 8 1 _ b1 (omega arith) h (b (at + 0)) in
+    subst (NumberAt s at 8) (omega arith) (number-all s at 8 0 _ refl b0)
 
 -- a value of a scalar type
 pub record LitIs (j : Kind) (v : Val) : Type 0 where

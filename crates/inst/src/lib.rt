@@ -79,7 +79,7 @@ fn high(n: u16) -> u8
 }
 
 // The number in the w bytes from `at` on, the low byte first.
-fn number(s: &[u8], at: usize, w: usize) -> u64
+fn number_of(s: &[u8], at: usize, w: usize) -> u64
     requires { ⌜ (at + w ≤ length (now s)) × (w ≤ 8) ⌝ }
     ensures { λ r. ⌜ NumberAt (now (s .entry)) at w r ⌝ }
 {
@@ -90,6 +90,17 @@ fn number(s: &[u8], at: usize, w: usize) -> u64
         x = x * 256 + wide(s[at + i]);
     }
     x
+}
+
+// The same, eight bytes at once: a payload's width.
+fn number(s: &[u8], at: usize, w: usize) -> u64
+    requires { ⌜ (at + w ≤ length (now s)) × (w ≤ 8) ⌝ }
+    ensures { λ r. ⌜ NumberAt (now (s .entry)) at w r ⌝ }
+{
+    if w == 8 {
+        return ty::eight(s, at);
+    }
+    number_of(s, at, w)
 }
 
 // The greatest payload of a kind: "unused high bytes are zero; Bool is 0 or 1". A payload's range is said here only.

@@ -24,6 +24,14 @@ kindNumber n = tested known n
 abbrev pub floatNumber : ℕ → Bool
 floatNumber n = tested isFloat n
 
+-- ---- numbers
+
+-- the number that the eight bytes from `at` on are, the low byte first
+abbrev pub eightAt : List ℕ → ℕ → ℕ
+eightAt s at =
+    let b : ℕ → ℕ = λ i. getD s (at + i) 0 in
+    b 0 + 256 * (b 1 + 256 * (b 2 + 256 * (b 3 + 256 * (b 4 + 256 * (b 5 + 256 * (b 6 + 256 * b 7))))))
+
 -- ---- answers
 
 -- a test answers whether P holds

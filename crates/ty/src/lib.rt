@@ -7,7 +7,7 @@ ghost use Rattle.meaning.specs.Trees.{Tv, Tm, litLen, valLen};
 ghost use Rattle.meaning.specs.Records.{side};
 ghost use Rattle.meaning.specs.Read.{readTarget};
 ghost use Rattle.ty.specs.Stands.{Ends, EndAll, Standing, StandingAll};
-ghost use Rattle.ty.specs.Fronts.{kindNumber, floatNumber, Decides, Told, ScalarAt, VectorAt, MatrixAt, ArrayAt, StructAt, Fronted};
+ghost use Rattle.ty.specs.Fronts.{kindNumber, floatNumber, eightAt, Decides, Told, ScalarAt, VectorAt, MatrixAt, ArrayAt, StructAt, Fronted};
 ghost use Rattle.ty.specs.Heads.{HeadAt, Sized, mostLit, lenOf, Measured, MeasuredAll, LeafAt};
 ghost use Rattle.ty.specs.Targets.{ArrayShape, VectorShape, MatrixShape, RuntimeTarget, TypeTarget, targetOf, sameBytes};
 
@@ -87,6 +87,29 @@ pub fn join(lo: u8, hi: u8) -> u16
     ensures { λ r. ⌜ r ≡ lo + 256 * hi ⌝ }
 {
     (lo as u16) + 256 * (hi as u16)
+}
+
+// The same of two numbers of two bytes, and of two numbers of four.
+fn join_two(lo: u16, hi: u16) -> u32
+    ensures { λ r. ⌜ r ≡ lo + 65536 * hi ⌝ }
+{
+    (lo as u32) + 65536 * (hi as u32)
+}
+
+fn join_four(lo: u32, hi: u32) -> u64
+    ensures { λ r. ⌜ r ≡ lo + 4294967296 * hi ⌝ }
+{
+    (lo as u64) + 4294967296 * (hi as u64)
+}
+
+// The number that the eight bytes from `at` on are, the low byte first. Without a loop, so that the compiler makes one load of it.
+pub fn eight(s: &[u8], at: usize) -> u64
+    requires { ⌜ at + 8 ≤ length (now s) ⌝ }
+    ensures { λ r. ⌜ r ≡ eightAt (now (s .entry)) at ⌝ }
+{
+    let a = join_two(join(s[at], s[at + 1]), join(s[at + 2], s[at + 3]));
+    let b = join_two(join(s[at + 4], s[at + 5]), join(s[at + 6], s[at + 7]));
+    join_four(a, b)
 }
 
 // How many bytes s has from `at` on.

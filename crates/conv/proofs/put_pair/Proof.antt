@@ -3,11 +3,11 @@ use native.Mathlib.Omega.{arith}
 use borrow.Author.Needs.{needs}
 use lib.ListN.{length-set}
 use Rattle.conv.proofs.Bytes.{put-two}
-use Rattle.conv.proofs.put_mark.Statement.{statement}
-use Rattle.conv.proofs.put_mark.Tie as tie
+use Rattle.conv.proofs.put_pair.Statement.{statement}
+use Rattle.conv.proofs.put_pair.Tie as tie
 
-pub put-mark-spec : {M : Type 1} → statement M
-put-mark-spec =
+pub put-pair-spec : {M : Type 1} → statement M
+put-pair-spec =
     tie.close
     (tie.spec
     -- slice-write-out
@@ -21,4 +21,4 @@ put-mark-spec =
     -- same-length
     (λ c. search needs)
     -- returns
-    (λ c. put-two _ (c .args .to) _ (c .args .letter)))
+    (λ c. put-two _ (c .args .to) (c .args .a) (c .args .b)))

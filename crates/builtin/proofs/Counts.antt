@@ -1,0 +1,66 @@
+-- None, one or more arguments.
+use mathlib.Core.Path.{_≡_, refl}
+use mathlib.Core.List.{List, [], _∷_}
+use Prim.Native.Nat.{ℕ, _≤_}
+use native.Mathlib.Omega.{arith}
+use lib.ListN.{length}
+use Rattle.meaning.specs.Scalars.{Stage}
+use Rattle.meaning.specs.Trees.{Ty, Ta, Tu, Tys, Tr, Qa, Val, Of}
+use Rattle.meaning.specs.Build.{build, buildOne, buildMore, arrayOf, structOf, runtimeOf, qaOf}
+use Rattle.call.specs.Row.{Row}
+use Rattle.builtin.specs.Calls.{Given, OneGiven, MoreGiven}
+
+module _ (P : List Val → Type 0) {args : List ℕ} {n : ℕ} (l : List Val) (g : Given args n l) where
+  pub on-none : n ≡ 0 → P [] → P l
+  on-none h p = go l (g .count) p
+    where
+      go : (l : List Val) → n ≡ length l → P [] → P l
+      go [] c p = p
+      go (v ∷ l) c p = absurd (omega arith)
+
+  pub on-one : n ≡ 1 → ((v : Val) → Row args 0 (v ∷ []) → P (v ∷ [])) → P l
+  on-one h f = go l (g .row) (g .count)
+    where
+      go : (l : List Val) → Row args 0 l → n ≡ length l → P l
+      go [] w c = absurd (omega arith)
+      go (v ∷ []) w c = f v w
+      go (v ∷ u ∷ l) w c = absurd (omega arith)
+
+  pub on-more : 2 ≤ n → ((v u : Val) (m : List Val) → Given args n (v ∷ u ∷ m) → P (v ∷ u ∷ m)) → P l
+  on-more h f = go l g
+    where
+      go : (l : List Val) → Given args n l → P l
+      go [] x = absurd (omega (arith, x .count))
+      go (v ∷ []) x = absurd (omega (arith, x .count))
+      go (v ∷ u ∷ m) x = f v u m x
+
+-- the one argument, and the first of several
+pub one-given : {args : List ℕ} {n : ℕ} (l : List Val) → Given args n l → n ≡ 1 → OneGiven args
+one-given {args} l g h = on-one (λ m. OneGiven args) l g h (λ v w. record { value = v; row = w })
+
+pub more-given : {args : List ℕ} {n : ℕ} (l : List Val) → Given args n l → 1 ≤ n → MoreGiven args n
+more-given [] g h = absurd (omega (arith, g .count))
+more-given (v ∷ l) g h = record { value = v; others = l; given = g }
+
+-- an array, a struct and the shape of an array are built alike from one argument and from more
+pub array-build : (s : Stage) (n : ℕ) (t : Ty) (l : List Val) → 1 ≤ length l → build s (Of (Ta n t)) l ≡ arrayOf n t l
+unfolding build buildOne buildMore
+array-build s n t [] h = absurd (omega arith)
+array-build s n t (v ∷ []) h = refl
+array-build s n t (v ∷ u ∷ l) h = refl
+
+pub struct-build : (s : Stage) (i : ℕ) (m : Tys) (l : List Val) → 1 ≤ length l → build s (Of (Tu i m)) l ≡ structOf i m l
+unfolding build buildOne buildMore
+struct-build s i m [] h = absurd (omega arith)
+struct-build s i m (v ∷ []) h = refl
+struct-build s i m (v ∷ u ∷ l) h = refl
+
+pub runtime-build : (s : Stage) (t : Ty) (l : List Val) → 1 ≤ length l → build s (Tr t) l ≡ runtimeOf t l
+unfolding build
+runtime-build s t [] h = absurd (omega arith)
+runtime-build s t (v ∷ l) h = refl
+
+pub qa-build : (s : Stage) (l : List Val) → 1 ≤ length l → build s Qa l ≡ qaOf l
+unfolding build
+qa-build s [] h = absurd (omega arith)
+qa-build s (v ∷ l) h = refl

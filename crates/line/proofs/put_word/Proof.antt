@@ -1,0 +1,21 @@
+-- Three stores in a row.
+use native.Mathlib.Omega.{arith}
+use borrow.Author.Needs.{needs}
+use lib.ListN.{length-set}
+use Rattle.line.proofs.put_word.Statement.{statement}
+use Rattle.line.proofs.put_word.Tie as tie
+
+pub put-word-spec : {M : Type 1} → statement M
+put-word-spec =
+    tie.close
+    (tie.spec
+    -- slice-write-out
+    (λ c. search needs)
+    -- slice-write-out-2
+    (λ c. simp length-set (omega arith))
+    -- slice-write-out-3
+    (λ c. search needs)
+    -- same-length
+    (λ c. search needs)
+    -- returns
+    (λ c. search needs))

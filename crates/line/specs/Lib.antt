@@ -1,0 +1,3 @@
+pub mod Told
+pub mod Split
+pub mod Digits
