@@ -1,14 +1,16 @@
 -- From the stage, the target and the arguments that were read to the answer: "Order: 3, 1, 2, then the order above, then 22".
 use mathlib.Core.Path.{_≡_, refl, sym, ap, _∙_, subst}
 use mathlib.Core.Option.{Option, none, some}
+use mathlib.Core.Bool.{_&&_}
 use mathlib.Core.List.{List, [], _∷_, map}
 use Prim.Native.Nat.{ℕ, zero, suc, _≤_, _<_}
 use native.Mathlib.Omega.{arith}
 use lib.Dec.{T, leb, leb→le}
 use lib.ListN.{length, length-map}
+use Rattle.meaning.specs.Kinds.{Kind, kindNo, isFloat}
 use Rattle.meaning.specs.Scalars.{Stage, Const, Override, Exec}
-use Rattle.meaning.specs.Trees.{Val, Target, typeOf}
-use Rattle.meaning.specs.Records.{valBytes, joined, every, shapedVal, goodTy, goodVal, goodArg, goodTys, goodArgs}
+use Rattle.meaning.specs.Trees.{Ty, Tv, Tm, Val, Target, typeOf}
+use Rattle.meaning.specs.Records.{valBytes, joined, every, side, shapedTy, shapedVal, goodTy, goodVal, goodArg, goodTys, goodArgs}
 use Rattle.meaning.specs.Read.{readTarget, readVals}
 use Rattle.meaning.specs.Answers.{Answer, ok, no, orNo, _>>=_}
 use Rattle.meaning.specs.Build.{build}
@@ -16,9 +18,12 @@ use Rattle.meaning.specs.Entries.{stageOf, handVal, buildAnswer}
 use Rattle.laws.proofs.Back.{and-l, and-r}
 use Rattle.laws.proofs.Sound.{All, Bytes}
 use Rattle.laws.proofs.Exact.{vals-exact}
+use Rattle.ty.specs.Fronts.{floatNumber}
+use Rattle.ty.proofs.Numbers.{float-number}
 use Rattle.inst.specs.Counts.{ValueArg, argsOf}
 use Rattle.inst.specs.declared.Args.{Args}
 use Rattle.inst.specs.declared.Args.the-variants.{Count, Bad}
+use Rattle.conv.specs.Ranked.{Whole}
 use Rattle.call.specs.Told.{Told, Builds}
 use Rattle.call.specs.Row.{Row}
 use Rattle.call.specs.declared.Written.{Written}
@@ -59,6 +64,21 @@ module _ (stage : ℕ) (target args : List ℕ) (room : ℕ) where
   pub read-answer : {s : Stage} {g : Target} → stageOf stage ≡ some s → readTarget target ≡ some g → buildAnswer stage target args room ≡ buildRead s g args room
   unfolding buildAnswer buildRead
   read-answer e h = rw (e, h)
+
+-- ---- the sides of a vector's and of a matrix's type
+
+module _ {target : List ℕ} {t : Ty} (w : Whole target t) where
+  pub vector-side : {n : ℕ} {k : Kind} → t ≡ Tv n k → T (side n)
+  unfolding shapedTy
+  vector-side e = subst (λ (u : Ty). T (shapedTy u)) e (w .shaped)
+
+  -- and its kind is a float's
+  pub matrix-sides : {c r n : ℕ} {k : Kind} → t ≡ Tm c r k → n ≡ kindNo k → T (side c) × T (side r) × T (floatNumber n)
+  unfolding shapedTy
+  matrix-sides {c} {r} {n} {k} e q =
+      let g : T (side c && side r && isFloat k) = subst (λ (u : Ty). T (shapedTy u)) e (w .shaped) in
+      let h = and-l (side c && side r) (isFloat k) g in
+      (and-l (side c) (side r) h, and-r (side c) (side r) h, rw (q, float-number k) (and-r (side c && side r) (isFloat k) g))
 
 -- ---- the arguments
 

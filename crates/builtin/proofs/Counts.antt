@@ -1,14 +1,22 @@
 -- None, one or more arguments.
 use mathlib.Core.Path.{_≡_, refl}
+use mathlib.Core.Bool.{true, false}
 use mathlib.Core.List.{List, [], _∷_}
 use Prim.Native.Nat.{ℕ, _≤_}
 use native.Mathlib.Omega.{arith}
 use lib.ListN.{length}
+use Rattle.meaning.specs.Kinds.{Kind, isAbstract}
 use Rattle.meaning.specs.Scalars.{Stage}
-use Rattle.meaning.specs.Trees.{Ty, Ta, Tu, Tys, Tr, Qa, Val, Of}
+use Rattle.meaning.specs.Trees.{Ty, Ts, Ta, Tu, Tys, Tr, Qa, Val, Of}
+use Rattle.meaning.specs.Answers.{Result, no}
 use Rattle.meaning.specs.Build.{build, buildOne, buildMore, arrayOf, structOf, runtimeOf, qaOf}
 use Rattle.call.specs.Row.{Row}
-use Rattle.builtin.specs.Calls.{Given, OneGiven, MoreGiven}
+use Rattle.call.specs.Told.{Builds}
+use Rattle.call.specs.declared.Written.{Written}
+use Rattle.made.specs.Made.{OneArg}
+use Rattle.array.specs.Arrays as arrays
+use Rattle.matrix.specs.Asked as matrices
+use Rattle.builtin.specs.Calls.{Given, SomeGiven}
 
 module _ (P : List Val → Type 0) {args : List ℕ} {n : ℕ} (l : List Val) (g : Given args n l) where
   pub on-none : n ≡ 0 → P [] → P l
@@ -34,13 +42,37 @@ module _ (P : List Val → Type 0) {args : List ℕ} {n : ℕ} (l : List Val) (g
       go (v ∷ []) x = absurd (omega (arith, x .count))
       go (v ∷ u ∷ m) x = f v u m x
 
--- the one argument, and the first of several
-pub one-given : {args : List ℕ} {n : ℕ} (l : List Val) → Given args n l → n ≡ 1 → OneGiven args
-one-given {args} l g h = on-one (λ m. OneGiven args) l g h (λ v w. record { value = v; row = w })
+-- what is built of none, of one and of more
+module _ (f : List Val → Result Val) {args : List ℕ} {n : ℕ} (l : List Val) (g : Given args n l) {out : List ℕ} {r : Written} {out′ : List ℕ} where
+  pub builds-none : n ≡ 0 → Builds (f []) out r out′ → Builds (f l) out r out′
+  builds-none h b = on-none (λ m. Builds (f m) out r out′) l g h b
 
-pub more-given : {args : List ℕ} {n : ℕ} (l : List Val) → Given args n l → 1 ≤ n → MoreGiven args n
+  pub builds-one : n ≡ 1 → ((v : Val) → Row args 0 (v ∷ []) → Builds (f (v ∷ [])) out r out′) → Builds (f l) out r out′
+  builds-one h b = on-one (λ m. Builds (f m) out r out′) l g h b
+
+  pub builds-more : 2 ≤ n → ((v u : Val) (m : List Val) → Given args n (v ∷ u ∷ m) → Builds (f (v ∷ u ∷ m)) out r out′) → Builds (f l) out r out′
+  builds-more h b = on-more (λ m. Builds (f m) out r out′) l g h b
+
+-- the one argument
+pub one-given : {args : List ℕ} {n : ℕ} → SomeGiven args n → n ≡ 1 → OneArg args
+one-given {args} x h = on-one (λ m. OneArg args) (x .values) (x .given) h (λ v w. record { value = v; row = w })
+
+-- at least one, as arrays and matrices ask for them
+pub array-given : {args : List ℕ} {n : ℕ} {l : List Val} → Given args n l → 1 ≤ n → arrays.Given args n l
+array-given g h = let c = g .count in record { row = g .row; is = c; least = omega arith; most = omega (arith, g .few) }
+
+pub more-given : {args : List ℕ} {n : ℕ} (l : List Val) → Given args n l → 1 ≤ n → matrices.SomeGiven args n
 more-given [] g h = absurd (omega (arith, g .count))
-more-given (v ∷ l) g h = record { value = v; others = l; given = g }
+more-given (v ∷ l) g h = record { value = v; others = l; row = g .row; size = g .count }
+
+-- a scalar with more: 4 for an abstract one, else 5
+pub more-abstract : (k : Kind) → isAbstract k ≡ true → (v : Val) (l : List Val) → buildMore (Ts k) v l ≡ no 4
+unfolding buildMore
+more-abstract k h v l = rw h
+
+pub more-concrete : (k : Kind) → isAbstract k ≡ false → (v : Val) (l : List Val) → buildMore (Ts k) v l ≡ no 5
+unfolding buildMore
+more-concrete k h v l = rw h
 
 -- an array, a struct and the shape of an array are built alike from one argument and from more
 pub array-build : (s : Stage) (n : ℕ) (t : Ty) (l : List Val) → 1 ≤ length l → build s (Of (Ta n t)) l ≡ arrayOf n t l

@@ -1,7 +1,7 @@
 -- What the steps of a build are asked, and what they answer.
 use mathlib.Core.Path.{_≡_}
 use mathlib.Core.Option.{Option, some}
-use mathlib.Core.List.{List, [], _∷_}
+use mathlib.Core.List.{List}
 use Prim.Native.Nat.{ℕ, _≤_}
 use lib.ListN.{length}
 use Rattle.meaning.specs.Kinds.{Kind, kindNo}
@@ -29,21 +29,7 @@ pub record SomeGiven (args : List ℕ) (n : ℕ) : Type 0 where
   pub values : List Val
   pub given : Given args n values
 
--- one, and at least one
-pub record OneGiven (args : List ℕ) : Type 0 where
-  pub value : Val
-  pub row : Row args 0 (value ∷ [])
-
-pub record MoreGiven (args : List ℕ) (n : ℕ) : Type 0 where
-  pub value : Val
-  pub others : List Val
-  pub given : Given args n (value ∷ others)
-
 -- ---- the target, once it is read
-
-pub record IsKind (k : ℕ) : Type 0 where
-  pub kind : Kind
-  pub no : k ≡ kindNo kind
 
 pub record IsRuntime (target : List ℕ) : Type 0 where
   pub type : Ty

@@ -52,7 +52,7 @@ unfolding leafOf
 struct-is none e = refl
 struct-is (some j) e = absurd (let z : _≡_ {A = ℕ} 0 1 = cc in omega arith)
 
-between : {j k : ℕ} (a b : Kind) → j ≡ kindNo a → k ≡ kindNo b → rankBetween j k ≡ kindRank a b
+pub between : {j k : ℕ} (a b : Kind) → j ≡ kindNo a → k ≡ kindNo b → rankBetween j k ≡ kindRank a b
 unfolding rankBetween ofKind
 between a b e f = rw (e, f, kind-back a, kind-back b)
 

@@ -44,7 +44,7 @@ mutual
   leaf-plains (v ▹ l) t a g e =
       both (plain v) (plains l) (leaf-plain v (and-l (shapedVal v) (shapedVals l) g) (ap leaf (a .0) ∙ e)) (leaf-plains l t (a .1) (and-r (shapedVal v) (shapedVals l) g) e)
 
-leaf-from : {a b : Ty} {k : Kind} → How a b → leaf b ≡ some k → (j : Kind) × (leaf a ≡ some j)
+pub leaf-from : {a b : Ty} {k : Kind} → How a b → leaf b ≡ some k → (j : Kind) × (leaf a ≡ some j)
 leaf-from (stays e f) h = absurd (none-some (sym f ∙ h))
 leaf-from (changes j k e f q r) h = (j, e)
 

@@ -28,7 +28,7 @@ use Rattle.conv.proofs.Written.{joinSome, all-append, all-length, writt
 
 -- ---- a record is its items'
 
-joined-append : {A : Type 0} (f : A → List ℕ) (a b : List A) → joined f (a ++ b) ≡ joined f a ++ joined f b
+pub joined-append : {A : Type 0} (f : A → List ℕ) (a b : List A) → joined f (a ++ b) ≡ joined f a ++ joined f b
 unfolding joined
 joined-append f [] b = refl
 joined-append f (x ∷ a) b = (rw (joined-append f a b)) ∙ sym (append-assoc (f x) (joined f a) (joined f b))

@@ -134,7 +134,7 @@ module _ (d m : ℕ) where
   value-tells a b x y p q e =
       ap (λ (o : Option (Val × List ℕ)). let v : Val = elim o [ none ↦ a | some r ↦ r .0 ] in v) (sym (val-back′ a x p) ∙ (ap (pVal (suc d)) e ∙ val-back′ b y q))
 
-  short-of : (t : Ty) → T (goodWithin d m t) → length (tyBytes t) ≤ m
+  pub short-of : (t : Ty) → T (goodWithin d m t) → length (tyBytes t) ≤ m
   unfolding goodWithin
   short-of t g = leb→le (length (tyBytes t)) m (and-r (shapedTy t && leb (depth t) d) (leb (length (tyBytes t)) m) g)
 
@@ -223,7 +223,7 @@ depth-least true = omega arith
 depth-least false = omega arith
 
 -- each passes the test where P holds, and the other way round
-every-all : {A : Type 0} (f : A → Bool) (P : A → Type 0) → ((a : A) → T (f a) → P a) → (l : List A) → T (every f l) → All P l
+pub every-all : {A : Type 0} (f : A → Bool) (P : A → Type 0) → ((a : A) → T (f a) → P a) → (l : List A) → T (every f l) → All P l
 unfolding every
 every-all f P h [] g = tt
 every-all f P h (a ∷ l) g = (h a (and-l (f a) (every f l) g), every-all f P h l (and-r (f a) (every f l) g))
@@ -254,7 +254,7 @@ exactly {A} good write read P x f g s b Bad c = go (read s) refl
         absurd (c (length l) (z .1) record { items = l; here = y .0; each = z .0; count = refl })
 
 module _ (g : Target) where
-  limit : (l : List Ty) → T (goodTys g l) → T (every (goodArg g) l) × (length l ≤ 65535)
+  pub limit : (l : List Ty) → T (goodTys g l) → T (every (goodArg g) l) × (length l ≤ 65535)
   unfolding goodTys
   limit l h = (and-l (every (goodArg g) l) (leb (length l) 65535) h, leb→le (length l) 65535 (and-r (every (goodArg g) l) (leb (length l) 65535) h))
 
@@ -269,7 +269,7 @@ module _ (g : Target) where
       (λ l h. let x = limit l h in (every-all (goodArg g) _ (λ t p. subst T (arg-is g t) p) l (x .0), x .1))
 
   -- under the limits of any target a type is well formed
-  good-ty : (t : Ty) → T (goodArg g t) → T (goodTy t)
+  pub good-ty : (t : Ty) → T (goodArg g t) → T (goodTy t)
   unfolding goodTy
   good-ty t h = go (isQa g) (subst T (arg-is g t) h)
     where

@@ -205,7 +205,7 @@ agree-none s t h e = rw e (rw (fits-none false s (lands t 0)) (let z = zero-made
 
 -- ---- structs
 
-abbrev ConvM : Bool → List Ty → Option (List Val) → Type 0
+abbrev pub ConvM : Bool → List Ty → Option (List Val) → Type 0
 ConvM true ts r = (ws : List Val) × (r ≡ some ws) × T (shapedVals (valsOf ws)) × (typesOf (valsOf ws) ≡ tysOf ts)
 ConvM false ts r = r ≡ none
 
@@ -216,7 +216,7 @@ member-cons true true t ts x y (w, e, g, q) (ws, f, h, a) = (w ∷ ws, rw (e, f)
 member-cons true false t ts x y (w, e, g, q) f = rw (e, f)
 member-cons false b t ts x y e f = rw e
 
-conv-members : (ts : List Ty) (l : List Val) (s : Stage) → AllOk l → length l ≡ length ts → T (memberwiseTy ts (map typeOf l))
+pub conv-members : (ts : List Ty) (l : List Val) (s : Stage) → AllOk l → length l ≡ length ts → T (memberwiseTy ts (map typeOf l))
     → ConvM (fitsIn false s ts l) ts (memberwise ts l)
 unfolding memberwise memberwiseTy fitsIn valsOf shapedVals typesOf tysOf
 conv-members [] l s g e h = ([], refl, tt, refl)
@@ -231,7 +231,7 @@ unfolding mapSome
 map-none none y e = refl
 map-none (some w) y e = rw e
 
-members-not : (ts : List Ty) (l : List Val) → memberwiseTy ts (map typeOf l) ≡ false → memberwise ts l ≡ none
+pub members-not : (ts : List Ty) (l : List Val) → memberwiseTy ts (map typeOf l) ≡ false → memberwise ts l ≡ none
 unfolding memberwise memberwiseTy
 members-not [] l h = true-false h
 members-not (t ∷ ts) [] h = true-false h

@@ -83,7 +83,7 @@ scalar-of (Tm c r j) k h = absurd (subst T (not-to-scalar (Tm c r j) k refl) h)
 scalar-of (Ta n t) k h = absurd (subst T (not-to-scalar (Ta n t) k refl) h)
 scalar-of (Tu i m) k h = absurd (subst T (not-to-scalar (Tu i m) k refl) h)
 
-down : (k : Kind) (x u : Ty) → toInner k x ≡ some u → Down k x u
+pub down : (k : Kind) (x u : Ty) → toInner k x ≡ some u → Down k x u
 unfolding toInner
 down k x u h = go (converts (inner x) (Ts k)) refl h
   where
@@ -185,7 +185,7 @@ pub full : (k : Kind) (ps : List ℕ) (n : ℕ) → T (every (goodLit k) ps) →
 full k ps n g e = both (every (goodLit k) ps) (eqb (length ps) n) g (subst (λ (i : ℕ). T (eqb i n)) (sym e) (eqb-refl n))
 
 -- where the shape is right, the payloads are c * r of the kind
-shape-pay : (c r : ℕ) (t : Ty) (k : Kind) (n : ℕ) → leaf t ≡ some k → matShape c r t n ≡ ok tt → (ws : List Val) → T (shapedVals (valsOf ws)) → AllTy t (valsOf ws)
+pub shape-pay : (c r : ℕ) (t : Ty) (k : Kind) (n : ℕ) → leaf t ≡ some k → matShape c r t n ≡ ok tt → (ws : List Val) → T (shapedVals (valsOf ws)) → AllTy t (valsOf ws)
     → countVals (valsOf ws) ≡ n → T (shapedVal (Vm c r k (payloadsOfAll ws)))
 unfolding leaf matShape shapedVal
 shape-pay c r (Ts j) k n e h ws g a q =

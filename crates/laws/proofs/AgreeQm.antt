@@ -32,7 +32,7 @@ unfolding some? kindRank fromAint
 base = tt
 
 -- the float kind is one that the arguments' kind converts to
-float-kind : (t : Ty) (k : Kind) → floatKind t ≡ some k → (j : Kind) × (t ≡ Ts j) × T (some? (kindRank j k))
+pub float-kind : (t : Ty) (k : Kind) → floatKind t ≡ some k → (j : Kind) × (t ≡ Ts j) × T (some? (kindRank j k))
 unfolding floatKind
 float-kind (Ts j) k h = (j, refl, go (sameKind j aint) refl (isFloat j) h)
   where
@@ -48,7 +48,7 @@ float-kind (Tm c r j) k h = absurd (let z : _≡_ {A = ℕ} 0 1 = cc in omega ar
 float-kind (Ta n t) k h = absurd (let z : _≡_ {A = ℕ} 0 1 = cc in omega arith)
 float-kind (Tu i m) k h = absurd (let z : _≡_ {A = ℕ} 0 1 = cc in omega arith)
 
-shape-set : (c r : ℕ) (a : Ty) (k : Kind) (n : ℕ) → matShape c r (setLeaf k a) n ≡ matShape c r a n
+pub shape-set : (c r : ℕ) (a : Ty) (k : Kind) (n : ℕ) → matShape c r (setLeaf k a) n ≡ matShape c r a n
 unfolding matShape setLeaf
 shape-set c r (Ts j) k n = refl
 shape-set c r (Tv m j) k n = refl
@@ -56,7 +56,7 @@ shape-set c r (Tm a b j) k n = refl
 shape-set c r (Ta m t) k n = refl
 shape-set c r (Tu i m) k n = refl
 
-lits-list : (a : Ty) (k : Kind) → Down k a (setLeaf k a) → (l : List Val) (s : Stage) → AllOk l → T (every (λ x. converts x a) (map typeOf l))
+pub lits-list : (a : Ty) (k : Kind) → Down k a (setLeaf k a) → (l : List Val) (s : Stage) → AllOk l → T (every (λ x. converts x a) (map typeOf l))
     → ConvL (fitsIn false s (replicate (length l) (setLeaf k a)) l) (length l) (setLeaf k a) (allSome (convLits k) l)
 unfolding every fitsIn allSome valsOf shapedVals countVals fitsLeaf
 lits-list a k d [] s g h = ([], refl, tt, tt, refl)

@@ -63,7 +63,7 @@ module _ {m : Made} {p : ℕ} (h : m ≡ Of p) {k : ℕ} (j : Kind) (n : k ≡ k
 -- ---- the kind
 
 module _ {k : ℕ} (j : Kind) (n : k ≡ kindNo j) {r : Bool} (a : r ≡ tested isAbstract k) where
-  abstract-is : r ≡ isAbstract j
+  pub abstract-is : r ≡ isAbstract j
   unfolding ofKind
   abstract-is = a ∙ (rw (n, kind-back j))
 

@@ -1,0 +1,101 @@
+-- The first member type and the first argument, and the others.
+use mathlib.Core.Path.{_≡_, refl, sym, ap, _∙_, subst}
+use mathlib.Core.Option.{Option, none, some}
+use mathlib.Core.List.{List, [], _∷_}
+use mathlib.Core.Bool.{Bool, true, false}
+use Prim.Native.Nat.{ℕ, _+_, _-_, _<_}
+use native.Mathlib.Omega.{arith}
+use lib.Dec.{T}
+use lib.ListN.{length, take, drop, length-drop}
+use Rattle.meaning.specs.Scalars.{some?}
+use Rattle.meaning.specs.Trees.{Ty, Tys, [·], _▸_, Val, typeOf, tysList}
+use Rattle.meaning.specs.Records.{tyBytes, joined}
+use Rattle.meaning.specs.Convert.{converts, convVal}
+use Rattle.meaning.specs.Build.{memberwise}
+use Rattle.laws.proofs.AgreeConv.{conv-not}
+use Rattle.ty.specs.Stands.{Stands, StandAll, Standing}
+use Rattle.ty.proofs.Heads.{first-is}
+use Rattle.conv.specs.Ranked.{Whole, ConvertsIs}
+use Rattle.conv.specs.Values.{ValueTo, HasVal, ValueFits}
+use Rattle.call.specs.Row.{SomeArg, NextIs, TypeIs}
+use Rattle.call.proofs.Rows.{row-has, some-val}
+use Rattle.lists.proofs.Places.{cut-whole, front-whole}
+use Rattle.array.specs.Members.{EndsAt, Pairs, MemberEnds}
+
+-- nothing, by a test that failed
+pub none-of : {A : Type 0} (o : Option A) → some? o ≡ false → o ≡ none
+unfolding some?
+none-of none h = refl
+none-of (some a) h = absurd (let z : _≡_ {A = ℕ} 0 1 = cc in omega arith)
+
+module _ {target : List ℕ} {at : ℕ} {args : List ℕ} {i : ℕ} {t : Ty} {m : Tys} {v : Val} {l : List Val} (x : Pairs target at args i (t ▸ m) (v ∷ l)) where
+  both : Stands 14 target at t (at + length (tyBytes t)) × StandAll 14 target (at + length (tyBytes t)) (length l) m (length target)
+  both =
+      let f = first-is (x .types) (omega arith) in
+      let a : f .type ≡ t = cc (f .is) in
+      let b : f .others ≡ m = cc (f .is) in
+      let n : length (v ∷ l) - 1 ≡ length l = omega arith in
+      let c : f .mid ≡ at + length (tyBytes t) = f .first .size ∙ ap (λ (u : Ty). at + length (tyBytes u)) a in
+      (rw (a, c) at (f .first), rw (b, c, n) at (f .rest))
+
+  pub pair-arg : SomeArg args i
+  pair-arg = record { value = v; others = l; row = x .row }
+
+  pub pair-type : Standing 14 target at
+  pair-type = record { type = t; end = at + length (tyBytes t); stands = both .0 }
+
+  module _ {q : ℕ} (f : EndsAt target at q) where
+    pub pair-stands : Stands 14 target at t q
+    pair-stands = subst (Stands 14 target at t) (sym (f t (at + length (tyBytes t)) (both .0))) (both .0)
+
+    pub pair-part : Whole (take (q - at) (drop at target)) t
+    pair-part = cut-whole pair-stands (omega arith)
+
+    pub pair-rest : {e : ℕ} → NextIs args i v l e → Pairs target q args e m l
+    pair-rest n = record { types = subst (λ (p : ℕ). StandAll 14 target p (length l) m (length target)) (sym (f t (at + length (tyBytes t)) (both .0))) (both .1); row = n .rest }
+
+  -- the argument to the member's type, where its type converts
+  pub pair-to : {e : ℕ} → NextIs args i v l e → T (converts (typeOf v) t) → ValueTo 14 target at args i e t v
+  pair-to {e} n c =
+      record { part = t; end = at + length (tyBytes t); stands = both .0; bottom = refl; has = subst (λ (p : ℕ). HasVal args i p v) (sym (n .end)) (row-has (x .row)); converts = c }
+
+  pub pair-more : {e : ℕ} → NextIs args i v l e → i < e
+  pair-more n = omega (arith, n .end, some-val v)
+
+  module _ {e n : ℕ} {ty : List ℕ} (y : TypeIs args i v l e n ty) where
+    pub pair-front : Whole (take n ty) (typeOf v)
+    pair-front = front-whole (y .stands)
+
+    -- whether it converts: the type, then the literals
+    module _ {q : ℕ} (f : EndsAt target at q) {a : Bool} (c : ConvertsIs (take n ty) (take (q - at) (drop at target)) a) where
+      type-is : a ≡ converts (typeOf v) t
+      type-is = c (typeOf v) t pair-front (pair-part f)
+
+      pub type-no : a ≡ false → convVal t v ≡ none
+      type-no h = conv-not t v (sym type-is ∙ h)
+
+      module _ (h : a ≡ true) where
+        pub fits-asked : ValueTo 14 target at args i e t v
+        fits-asked = pair-to (y .next) (subst T (sym h ∙ type-is) tt)
+
+        module _ {b : Bool} (g : ValueFits 14 target at args i e b) where
+          pub fits-no : b ≡ false → convVal t v ≡ none
+          fits-no k = none-of (convVal t v) (sym (g t v fits-asked) ∙ k)
+
+          pub fits-yes : b ≡ true → MemberEnds target args i t m v l e q
+          fits-yes k = record { more = pair-more (y .next); fits = sym (g t v fits-asked) ∙ k; rest = pair-rest f (y .next) }
+
+-- where arguments are left, there is a member for the first
+pub record FirstPair (target : List ℕ) (at : ℕ) (args : List ℕ) (i : ℕ) (m : Tys) (l : List Val) : Type 0 where
+  pub type : Ty
+  pub types : Tys
+  pub value : Val
+  pub values : List Val
+  pub same : memberwise (tysList m) l ≡ memberwise (tysList (type ▸ types)) (value ∷ values)
+  pub pairs : Pairs target at args i (type ▸ types) (value ∷ values)
+
+pub first-pair : {target : List ℕ} {at : ℕ} {args : List ℕ} {i : ℕ} (m : Tys) (l : List Val) → Pairs target at args i m l → i < length args → FirstPair target at args i m l
+unfolding joined tysList
+first-pair {args = args} {i} m [] x h = absurd (omega (arith, length-drop i args, ap length (x .row .here)))
+first-pair [·] (v ∷ l) x h = absurd (omega (arith, x .types .count))
+first-pair (t ▸ m) (v ∷ l) x h = record { type = t; types = m; value = v; values = l; same = refl; pairs = x }

@@ -1,0 +1,77 @@
+-- Arrays: the arguments as elements, and what is answered for each target.
+use mathlib.Core.Path.{_≡_}
+use mathlib.Core.Option.{some}
+use mathlib.Core.List.{List}
+use Prim.Native.Nat.{ℕ, _≤_}
+use lib.ListN.{length}
+use Rattle.meaning.specs.Trees.{Ty, Ta, Val, Va, valsOf}
+use Rattle.meaning.specs.Answers.{ok, allSome}
+use Rattle.meaning.specs.Convert.{convVal}
+use Rattle.meaning.specs.Build.{arrayOf, runtimeOf, qaOf}
+use Rattle.ty.specs.Stands.{Stands}
+use Rattle.conv.specs.Ranked.{Whole}
+use Rattle.call.specs.Row.{Row}
+use Rattle.call.specs.Told.{Builds}
+use Rattle.call.specs.declared.Written.{Written}
+
+-- the arguments are the values l, as many as is said, and no more than a record counts
+pub record Given (args : List ℕ) (count : ℕ) (l : List Val) : Type 0 where
+  pub row : Row args 0 l
+  pub is : count ≡ length l
+  pub least : 1 ≤ length l
+  pub most : length l ≤ 65535
+
+-- ---- elements
+
+-- they convert to the type t, whose record stands at `at`, and are ws then
+pub record Elements (args : List ℕ) (count d : ℕ) (ty : List ℕ) (at : ℕ) (t : Ty) (e : ℕ) (l ws : List Val) : Type 0 where
+  pub given : Given args count l
+  pub stands : Stands d ty at t e
+  pub goes : allSome (convVal t) l ≡ some ws
+
+pub record SomeElements (args : List ℕ) (count d : ℕ) (ty : List ℕ) (at : ℕ) : Type 0 where
+  pub type : Ty
+  pub end : ℕ
+  pub values : List Val
+  pub intos : List Val
+  pub elements : Elements args count d ty at type end values intos
+
+abbrev pub ElementsTold : List ℕ → ℕ → ℕ → List ℕ → ℕ → List ℕ → Written → List ℕ → Type 0
+ElementsTold args count d ty at out r out′ =
+    (t : Ty) (e : ℕ) (l ws : List Val) → Elements args count d ty at t e l ws → Builds (ok (Va (valsOf ws))) out r out′
+
+-- ---- a counted array
+
+pub record SomeArray (target args : List ℕ) (count : ℕ) : Type 0 where
+  pub number : ℕ
+  pub type : Ty
+  pub values : List Val
+  pub whole : Whole target (Ta number type)
+  pub row : Row args 0 values
+  pub least : 1 ≤ length values
+  pub given : count ≡ length values
+
+abbrev pub ArrayTold : List ℕ → List ℕ → ℕ → List ℕ → Written → List ℕ → Type 0
+ArrayTold target args count out r out′ =
+    (n : ℕ) (t : Ty) (l : List Val) → Whole target (Ta n t) → Row args 0 l → 1 ≤ length l → count ≡ length l → Builds (arrayOf n t l) out r out′
+
+-- ---- a runtime-sized array: a `Tr` record, whose element type stands after the mark
+
+pub record SomeRuntime (target args : List ℕ) (count : ℕ) : Type 0 where
+  pub type : Ty
+  pub values : List Val
+  pub whole : Stands 14 target 2 type (length target)
+  pub given : Given args count values
+
+abbrev pub RuntimeTold : List ℕ → List ℕ → ℕ → List ℕ → Written → List ℕ → Type 0
+RuntimeTold target args count out r out′ =
+    (t : Ty) (l : List Val) → Stands 14 target 2 t (length target) → Row args 0 l → 1 ≤ length l → length l ≤ 65535 → count ≡ length l → Builds (runtimeOf t l) out r out′
+
+-- ---- without a type
+
+pub record SomeQa (args : List ℕ) (count : ℕ) : Type 0 where
+  pub values : List Val
+  pub given : Given args count values
+
+abbrev pub QaTold : List ℕ → ℕ → List ℕ → Written → List ℕ → Type 0
+QaTold args count out r out′ = (l : List Val) → Row args 0 l → 1 ≤ length l → length l ≤ 65535 → count ≡ length l → Builds (qaOf l) out r out′

@@ -1,0 +1,60 @@
+-- The types decide, then the literals.
+use mathlib.Core.Path.{sym, _∙_, subst}
+use native.Mathlib.Omega.{arith}
+use borrow.Author.Needs.{needs}
+use borrow.Author.Tests.{not-true, not-false}
+use lib.Dec.{T}
+use Rattle.ty.specs.Stands.{Ends}
+use Rattle.ty.specs.Fronts.{Told}
+use Rattle.lists.proofs.Places.{cut-to}
+use Rattle.lists.proofs.Converts.{none-all}
+use Rattle.lists.proofs.all_convert.Statement.{statement}
+use Rattle.lists.proofs.all_convert.Tie as tie
+
+pub all-convert-spec : {M : Type 1} → statement M
+all-convert-spec =
+    tie.close
+    (tie.spec
+    -- type-end-requires
+    (λ c κs. search needs)
+    -- enum-known-e
+    (λ c. search needs)
+    -- sub-types-convert
+    (λ c. let a = c .before .before .before .before .before .before .args in let f = subst (Told (Ends (a .depth) (a .ty .now) (a .at))) (c .before .e .given .1) (c .before .before .before .type-end .ensures) in omega (arith, f .stands .size))
+    -- part-types-convert-start
+    (λ c. let a = c .before .before .before .before .before .before .args in let f = subst (Told (Ends (a .depth) (a .ty .now) (a .at))) (c .before .e .given .1) (c .before .before .before .type-end .ensures) in omega (arith, f .stands .size))
+    -- part-types-convert-end
+    (λ c. let a = c .before .before .before .before .before .before .args in let f = subst (Told (Ends (a .depth) (a .ty .now) (a .at))) (c .before .e .given .1) (c .before .before .before .type-end .ensures) in f .stands .within)
+    -- types-convert-requires
+    (λ c κs.
+    let p = c .before .before .before .before .before .before .before .pre in
+    let a = c .before .before .before .before .before .before .before .args in
+    let f = subst (Told (Ends (a .depth) (a .ty .now) (a .at))) (c .before .before .e .given .1) (c .before .before .before .before .type-end .ensures) in
+    (p .0 .rest, record { type = _; stands = cut-to f (p .1) (f .stands) }))
+    -- returns
+    (λ c l t e w v.
+    let p = c .before .before .before .before .before .before .before .before .before .pre in
+    let a = c .before .before .before .before .before .before .before .before .before .args in
+    let f = subst (Told (Ends (a .depth) (a .ty .now) (a .at))) (c .before .before .before .before .e .given .1) (c .before .before .before .before .before .before .type-end .ensures) in
+    none-all t l (sym (c .before .types-convert .ensures l t w (cut-to f (p .1) v)) ∙ not-true (c .before .types-convert .result) (c .if1 .taken)))
+    -- all-fit-requires
+    (λ c κs.
+    let p = c .before .before .before .before .before .before .before .before .before .pre in
+    let a = c .before .before .before .before .before .before .before .before .before .args in
+    let f = subst (Told (Ends (a .depth) (a .ty .now) (a .at))) (c .before .before .before .before .e .given .1) (c .before .before .before .before .before .before .type-end .ensures) in
+    let s = p .0 .to .stands in
+    let w = p .0 .rest .row in
+    record {
+      values = _;
+      row = w;
+      type = _;
+      end = _;
+      stands = s;
+      converts = subst T (sym (not-false (c .before .types-convert .result) (c .if1 .left)) ∙ c .before .types-convert .ensures _ _ w (cut-to f (p .1) s)) tt;
+    })
+    -- enum-told
+    (λ c. search needs)
+    -- returns-2
+    (λ c. c .all-fit .ensures)
+    -- returns-3
+    (λ c l t e w v. let a = c .before .before .before .before .before .args in absurd (subst (Told (Ends (a .depth) (a .ty .now) (a .at))) (c .enum-told .given .1) (c .before .before .type-end .ensures) _ record { type = t; stands = v })))

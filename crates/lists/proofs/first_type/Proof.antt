@@ -1,0 +1,34 @@
+-- A literal's type is its mark and its kind.
+use native.Mathlib.Omega.{arith}
+use borrow.Author.Needs.{needs}
+use lib.ListN.{length-set}
+use Rattle.lists.proofs.Literals.{arg-three, literal-by, literal-first}
+use Rattle.lists.proofs.first_type.Statement.{statement}
+use Rattle.lists.proofs.first_type.Tie as tie
+
+pub first-type-spec : {M : Type 1} → statement M
+first-type-spec =
+    tie.close
+    (tie.spec
+    -- shared-slice-read-if1
+    (λ c. omega (arith, arg-three (c .before .before .before .pre .0 .row)))
+    -- first-other-requires
+    (λ c κs. search needs)
+    -- same-length
+    (λ c. search needs)
+    -- returns
+    (λ c. c .before .before .first-other .ensures)
+    -- shared-slice-read-k
+    (λ c. omega (arith, arg-three (c .before .before .before .before .before .pre .0 .row)))
+    -- literal-len-requires
+    (λ c κs. search needs)
+    -- slice-write-ty
+    (λ c. omega (arith, c .before .before .before .before .before .before .pre .1))
+    -- slice-write-ty-2
+    (λ c. simp length-set (omega (arith, c .before .before .before .before .before .before .pre .1)))
+    -- slice-write-ty-3
+    (λ c. simp length-set (omega (arith, c .before .before .before .before .before .before .pre .1)))
+    -- same-length-2
+    (λ c. search needs)
+    -- returns-2
+    (λ c v l w. literal-first (c .before .before .before .before .before .before .args .ty .now) w (literal-by w (c .before .before .if1 .left)) (c .literal-len .ensures) (omega (arith, c .before .before .before .before .before .before .pre .1))))

@@ -1,0 +1,226 @@
+-- The arguments once they convert: to the type that the first one's gives, or to the kind that the common type gives.
+use mathlib.Core.Path.{_≡_, refl, sym, ap, _∙_, subst}
+use mathlib.Core.Option.{Option, none, some}
+use mathlib.Core.List.{List, _∷_, map}
+use mathlib.Core.Bool.{Bool, true, false}
+use Prim.Native.Nat.{ℕ, _-_}
+use native.Mathlib.Omega.{arith}
+use borrow.Author.Tests.{ne-eqb}
+use lib.Dec.{T}
+use lib.ListN.{length, replicate, set}
+use Rattle.meaning.specs.Kinds.{Kind, kindNo, kindOf, isFloat, sameKind}
+use Rattle.meaning.specs.Scalars.{Const, some?}
+use Rattle.meaning.specs.Trees.{Ty, Ts, Tv, Tm, Ta, Tu, Val, Vm, typeOf, valsOf, setLeaf, inner}
+use Rattle.meaning.specs.Records.{valBytes, joined, every, shapedVals}
+use Rattle.meaning.specs.Answers.{ok, no, _>>_, allSome, mapSome}
+use Rattle.meaning.specs.Convert.{converts, convVal, convLits, common, floatKind}
+use Rattle.meaning.specs.Build.{matShape, payloadsOfAll, toInner, litKind, matParts, qmParts}
+use Rattle.laws.specs.Demand.{fitsIn}
+use Rattle.laws.proofs.AgreeBuild.{ConvL}
+use Rattle.laws.proofs.AgreeCommon.{common-all}
+use Rattle.laws.proofs.AgreeConv.{AllTy, set-same, none-some}
+use Rattle.laws.proofs.AgreeLit.{kind-back}
+use Rattle.laws.proofs.AgreeMat.{Down, leaf-inner, down-leaf}
+use Rattle.laws.proofs.AgreeQm.{float-kind, lits-list}
+use Rattle.laws.proofs.Sound.{some-inj, no-some, kind-no}
+use Rattle.kind.specs.Ends.{ofKind, tested}
+use Rattle.ty.specs.Stands.{Standing}
+use Rattle.ty.specs.Fronts.{floatNumber}
+use Rattle.conv.specs.Items.{SomeItems, Fits}
+use Rattle.conv.specs.Values.{plains}
+use Rattle.conv.proofs.Ranks.{KindIs}
+use Rattle.conv.proofs.Values.{Scan, list-scan, scan-items, scan-fits, some-map}
+use Rattle.call.specs.Row.{Row, TypeIs}
+use Rattle.call.proofs.Rows.{row-bytes, each-ok, each-shaped}
+use Rattle.lists.specs.Lists.{allTo, Asked}
+use Rattle.lists.proofs.Converts.{to-types, some-to, all-lits, all-plain}
+use Rattle.lists.proofs.Laws.{all-shaped, all-typed}
+use Rattle.matrix.specs.declared.Inner.{Inner}
+use Rattle.matrix.specs.declared.Inner.the-variants as inner-kind
+use Rattle.matrix.specs.Shapes.{innerOf, Parts}
+use Rattle.matrix.specs.Asked.{To, matTo, floatOf, Typed, qmTo}
+use Rattle.matrix.proofs.Downs.{kind-some, kind-none, lit-is, GoesTo, set-stands, float-is}
+
+-- ---- what the values converted are
+
+conv-shaped : (b : Bool) (n : ℕ) (t : Ty) (o : Option (List Val)) {ws : List Val} → ConvL b n t o → o ≡ some ws → T (shapedVals (valsOf ws)) × AllTy t (valsOf ws)
+conv-shaped true n t o {ws} (m, e, g, a, q) h = subst (λ (l : List Val). T (shapedVals (valsOf l)) × AllTy t (valsOf l)) (some-inj (sym e ∙ h)) (g, a)
+conv-shaped false n t o e h = no-some (sym e ∙ h)
+
+-- an option that the test says of
+some-of : {A : Type 0} (o : Option A) → true ≡ some? o → (a : A) × (o ≡ some a)
+unfolding some?
+some-of none h = absurd (let z : _≡_ {A = ℕ} 0 1 = cc in omega arith)
+some-of (some a) h = (a, refl)
+
+none-of : {A : Type 0} (o : Option A) → false ≡ some? o → o ≡ none
+unfolding some?
+none-of none h = refl
+none-of (some a) h = absurd (let z : _≡_ {A = ℕ} 0 1 = cc in omega arith)
+
+-- the values that the arguments become
+pub record Becoming (k : ℕ) (ty s : List ℕ) (count : ℕ) (j : Kind) (t : Ty) (l : List Val) (o : Option (List Val)) : Type 0 where
+  pub intos : List Val
+  pub is : o ≡ some intos
+  pub parts : Parts k ty s count j t l intos
+
+-- ---- to a type
+
+module _ {k : ℕ} {ty s : List ℕ} {count : ℕ} {j : Kind} {u : Ty} {l : List Val} (x : To k ty s count j u l) where
+  pub to-asked : Asked s 0 15 ty 0
+  to-asked = record { rest = record { values = l; row = x .row }; to = record { type = u; end = x .end; stands = x .stands } }
+
+  pub to-no : (c r : ℕ) → false ≡ some? (allSome (convVal u) l) → matTo c r j u l ≡ no 10
+  unfolding matTo
+  to-no c r h = rw (none-of (allSome (convVal u) l) h)
+
+  pub to-becoming : true ≡ some? (allSome (convVal u) l) → Becoming k ty s count j u l (allSome (convVal u) l)
+  to-becoming h =
+      let o = some-of (allSome (convVal u) l) h in
+      let a : T (allTo u l) = some-to u l (o .1) in
+      record {
+        intos = o .0;
+        is = o .1;
+        parts = record {
+          no = x .no;
+          end = x .end;
+          stands = x .stands;
+          row = x .row;
+          size = x .size;
+          plain = all-plain u (x .bottom) l (each-shaped l (x .row .each)) a;
+          goes = sym (all-lits u (x .bottom) l a) ∙ o .1;
+          shaped = all-shaped u l (each-ok l (x .row .each)) (o .1);
+          types = subst (λ (t : Ty). AllTy t (valsOf (o .0))) (sym (set-same u j (x .bottom))) (all-typed u l (each-ok l (x .row .each)) (o .1));
+        };
+      }
+
+  pub to-made : (c r : ℕ) (y : Becoming k ty s count j u l (allSome (convVal u) l)) → matTo c r j u l ≡ (matShape c r u count >> ok (Vm c r j (payloadsOfAll (y .intos))))
+  unfolding matTo
+  to-made c r y = rw (y .is, x .size)
+
+-- ---- from the first argument's type
+
+module _ (c r : ℕ) (j : Kind) (v : Val) (l : List Val) where
+  pub mat-no : toInner j (typeOf v) ≡ none → matParts c r j v l ≡ no 7
+  unfolding matParts
+  mat-no h = rw h
+
+  pub mat-goes : GoesTo j (typeOf v) → matParts c r j v l ≡ matTo c r j (setLeaf j (typeOf v)) (v ∷ l)
+  unfolding matParts matTo
+  mat-goes g = rw (g .into)
+
+pub mat-to : {k : ℕ} {s : List ℕ} {count e q : ℕ} {ty : List ℕ} {v : Val} {l : List Val} (j : Kind) → k ≡ kindNo j → T (floatNumber k) → Row s 0 (v ∷ l) → count ≡ length (v ∷ l)
+    → TypeIs s 0 v l e q ty → GoesTo j (typeOf v) → To k (set ty (q - 1) k) s count j (setLeaf j (typeOf v)) (v ∷ l)
+mat-to {q = q} {v = v} j n f w h t g =
+    record {
+      no = n;
+      end = q;
+      stands = set-stands j (t .stands) (leaf-inner (typeOf v) (g .down .kind) (g .down .at)) n (float-is j n f);
+      bottom = down-leaf j (typeOf v) (setLeaf j (typeOf v)) (g .down);
+      row = w;
+      size = h;
+    }
+
+-- ---- "float, AbstractInt becoming AbstractFloat"
+
+module _ {k : ℕ} (h : k ≡ 1 → ⊥) {b : Bool} (q : b ≡ tested isFloat k) where
+  pub float-yes : b ≡ true → inner-kind.Kind k ≡ floatOf k
+  unfolding floatOf ofKind innerOf floatKind sameKind kindNo
+  float-yes e = go (kindOf k) refl (sym e ∙ q)
+    where
+      go : (o : Option Kind) → kindOf k ≡ o → true ≡ ofKind false isFloat o → inner-kind.Kind k ≡ innerOf (ofKind none (λ j. floatKind (Ts j)) o)
+      go none p u = absurd (let z : _≡_ {A = ℕ} 0 1 = cc in omega arith)
+      go (some j) p u = let n : k ≡ kindNo j = kind-no k j p in rw (ne-eqb (kindNo j) 1 (λ z. h (n ∙ z)), sym u) (ap inner-kind.Kind n)
+
+  pub float-not : b ≡ false → inner-kind.Other ≡ floatOf k
+  unfolding floatOf ofKind innerOf floatKind sameKind kindNo
+  float-not e = go (kindOf k) refl (sym e ∙ q)
+    where
+      go : (o : Option Kind) → kindOf k ≡ o → false ≡ ofKind false isFloat o → inner-kind.Other ≡ innerOf (ofKind none (λ j. floatKind (Ts j)) o)
+      go none p u = refl
+      go (some j) p u = let n : k ≡ kindNo j = kind-no k j p in rw (ne-eqb (kindNo j) 1 (λ z. h (n ∙ z)), sym u)
+
+no-float : (t : Ty) → litKind t ≡ none → floatKind t ≡ none
+unfolding litKind floatKind
+no-float (Ts k) h = absurd (none-some (sym h))
+no-float (Tv n k) h = refl
+no-float (Tm c r k) h = refl
+no-float (Ta n t) h = refl
+no-float (Tu i m) h = refl
+
+module _ (t : Ty) where
+  pub kind-float : {i : ℕ} {x : Inner} → inner-kind.Kind i ≡ innerOf (litKind (inner t)) → x ≡ floatOf i → x ≡ innerOf (floatKind (inner t))
+  unfolding floatOf ofKind
+  kind-float {i} h q = let y = kind-some i (litKind (inner t)) h in q ∙ go (y .kind) (y .no) (lit-is (inner t) (y .is))
+    where
+      go : (j : Kind) → i ≡ kindNo j → inner t ≡ Ts j → floatOf i ≡ innerOf (floatKind (inner t))
+      go j n e = rw (n, kind-back j, e)
+
+  pub other-float : inner-kind.Other ≡ innerOf (litKind (inner t)) → inner-kind.Other ≡ innerOf (floatKind (inner t))
+  unfolding innerOf
+  other-float h = rw (no-float (inner t) (kind-none (litKind (inner t)) h))
+
+-- ---- to the kind of the common type
+
+module _ {ty s : List ℕ} {count : ℕ} {t : Ty} {l : List Val} (x : Typed ty s count t l) where
+  pub typed-standing : Standing 15 ty 0
+  typed-standing = record { type = t; end = x .end; stands = x .stands }
+
+  pub typed-other : (c r : ℕ) → inner-kind.Other ≡ innerOf (floatKind (inner t)) → qmTo c r t l ≡ no 13
+  unfolding qmTo
+  typed-other c r h = rw (kind-none (floatKind (inner t)) h)
+
+  module _ {k : ℕ} (h : inner-kind.Kind k ≡ innerOf (floatKind (inner t))) where
+    pub float : KindIs k (floatKind (inner t))
+    float = kind-some k (floatKind (inner t)) h
+
+    goes-down : Down (float .kind) t (setLeaf (float .kind) t)
+    goes-down = let y = float-kind (inner t) (float .kind) (float .is) in record { kind = y .0; at = y .1; is = refl; ranks = y .2 }
+
+    all-to : T (every (λ a. converts a t) (map typeOf l))
+    all-to = common-all (map typeOf l) t (x .is)
+
+    no-struct : T (plains (valsOf l))
+    no-struct = all-plain t (leaf-inner t (goes-down .kind) (goes-down .at)) l (each-shaped l (x .row .each)) (subst T (to-types t l) all-to)
+
+    scan : Scan (float .kind) s 0 (length s) (mapSome (joined valBytes) (allSome (convLits (float .kind)) l))
+    scan = list-scan (float .kind) l (row-bytes (x .row)) (each-shaped l (x .row .each)) no-struct
+
+    pub typed-items : SomeItems s 0 (length s)
+    typed-items = scan-items scan
+
+    module _ {b : Bool} (f : Fits k s 0 (length s) b) where
+      fits-are : b ≡ some? (allSome (convLits (float .kind)) l)
+      fits-are = scan-fits scan (float .no) f ∙ some-map (joined valBytes) (allSome (convLits (float .kind)) l)
+
+      pub typed-no : (c r : ℕ) → b ≡ false → qmTo c r t l ≡ no 10
+      unfolding qmTo
+      typed-no c r e = rw (float .is, none-of (allSome (convLits (float .kind)) l) (sym e ∙ fits-are))
+
+      pub typed-becoming : b ≡ true → Becoming k ty s count (float .kind) t l (allSome (convLits (float .kind)) l)
+      typed-becoming e =
+          let o = some-of (allSome (convLits (float .kind)) l) (sym e ∙ fits-are) in
+          let u : Ty = setLeaf (float .kind) t in
+          let g = conv-shaped (fitsIn false Const (replicate (length l) u) l) (length l) u (allSome (convLits (float .kind)) l) (lits-list t (float .kind) goes-down l Const (each-ok l (x .row .each)) all-to) (o .1) in
+          record {
+            intos = o .0;
+            is = o .1;
+            parts = record { no = float .no; end = x .end; stands = x .stands; row = x .row; size = x .size; plain = no-struct; goes = o .1; shaped = g .0; types = g .1 };
+          }
+
+      pub typed-made : (c r : ℕ) (y : Becoming k ty s count (float .kind) t l (allSome (convLits (float .kind)) l))
+          → qmTo c r t l ≡ (matShape c r t count >> ok (Vm c r (float .kind) (payloadsOfAll (y .intos))))
+      unfolding qmTo
+      typed-made c r y = go (float .kind) (float .is) (y .intos) (y .is)
+        where
+          go : (j : Kind) → floatKind (inner t) ≡ some j → (ws : List Val) → allSome (convLits j) l ≡ some ws → qmTo c r t l ≡ (matShape c r t count >> ok (Vm c r j (payloadsOfAll ws)))
+          go j e ws h = rw (e, h, x .size)
+
+module _ (c r : ℕ) (l : List Val) where
+  pub qm-none : common (map typeOf l) ≡ none → qmParts c r l ≡ no 10
+  unfolding qmParts
+  qm-none h = rw h
+
+  pub qm-typed : {t : Ty} → common (map typeOf l) ≡ some t → qmParts c r l ≡ qmTo c r t l
+  unfolding qmParts qmTo
+  qm-typed h = rw h

@@ -1,0 +1,43 @@
+-- The shape by the front of the type, rows before columns.
+use mathlib.Core.Path.{sym, _∙_}
+use borrow.Author.Needs.{needs}
+use Rattle.matrix.proofs.Shapes.{scalars-few, scalars-right, column-short, columns-few, columns-right, matrix-no, array-no, struct-no}
+use Rattle.matrix.proofs.shape_of.Statement.{statement}
+use Rattle.matrix.proofs.shape_of.Tie as tie
+
+pub shape-of-spec : {M : Type 1} → statement M
+shape-of-spec =
+    tie.close
+    (tie.spec
+    -- head-at-requires
+    (λ c κs. search needs)
+    -- enum-told
+    (λ c. search needs)
+    -- times-requires
+    (λ c κs. search needs)
+    -- returns
+    (λ c t e w. scalars-few w _ _ _ (sym (c .before .before .enum-told .given .1) ∙ c .before .before .before .before .head-at .ensures t e w) (c .before .times .ensures) (c .if1 .taken))
+    -- enum-known-n
+    (λ c. search needs)
+    -- returns-2
+    (λ c t e w. column-short w _ _ _ (sym (c .before .before .n .given .1) ∙ c .before .before .before .before .head-at .ensures t e w) (c .if2 .taken))
+    -- wide-requires
+    (λ c κs. search needs)
+    -- returns-3
+    (λ c t e w. columns-few w _ _ _ (sym (c .before .before .before .before .n .given .1) ∙ c .before .before .before .before .before .before .head-at .ensures t e w) (c .before .before .if2 .left) (c .before .wide .ensures) (c .if3 .taken))
+    -- enum-told-2
+    (λ c. search needs)
+    -- enum-told-3
+    (λ c. search needs)
+    -- enum-told-4
+    (λ c. search needs)
+    -- returns-4
+    (λ c t e w. scalars-right w _ _ _ (sym (c .before .before .enum-told .given .1) ∙ c .before .before .before .before .head-at .ensures t e w) (c .before .times .ensures) (c .if1 .left))
+    -- returns-5
+    (λ c t e w. columns-right w _ _ _ (sym (c .before .before .before .before .n .given .1) ∙ c .before .before .before .before .before .before .head-at .ensures t e w) (c .before .before .if2 .left) (c .before .wide .ensures) (c .if3 .left))
+    -- returns-6
+    (λ c t e w. matrix-no w _ _ _ (sym (c .enum-told2 .given .1) ∙ c .before .before .head-at .ensures t e w))
+    -- returns-7
+    (λ c t e w. array-no w _ _ _ (sym (c .enum-told3 .given .1) ∙ c .before .before .head-at .ensures t e w))
+    -- returns-8
+    (λ c t e w. struct-no w _ _ _ (sym (c .enum-told4 .given .1) ∙ c .before .before .head-at .ensures t e w)))

@@ -1,0 +1,19 @@
+-- A product of two bytes fits.
+use native.Mathlib.Omega.{arith}
+use borrow.Author.Needs.{needs}
+use Rattle.ty.proofs.Lens.{times-small}
+use Rattle.matrix.proofs.times.Statement.{statement}
+use Rattle.matrix.proofs.times.Tie as tie
+
+pub times-spec : {M : Type 1} → statement M
+times-spec =
+    tie.close
+    (tie.spec
+    -- wide-requires
+    (λ c κs. search needs)
+    -- wide-requires-2
+    (λ c κs. search needs)
+    -- mul-result
+    (λ c. let a = c .before .before .args in record { fits = omega (arith, times-small (c .before .wide .result) (c .wide2 .result) 255 (search needs) (search needs)) })
+    -- returns
+    (λ c. rw (c .before .wide .ensures, c .wide2 .ensures)))

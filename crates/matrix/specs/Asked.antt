@@ -1,0 +1,115 @@
+-- What the constructors of a matrix are asked, and what they answer: a matrix type, and the untemplated shape `Qm`.
+use mathlib.Core.Path.{_≡_}
+use mathlib.Core.Option.{none, some}
+use mathlib.Core.List.{List, [], _∷_, map}
+use mathlib.Core.Bool.{Bool, not}
+use Prim.Native.Nat.{ℕ, _≤_}
+use lib.Dec.{T}
+use lib.ListN.{length}
+use Rattle.meaning.specs.Kinds.{Kind, kindNo, kindOf, isAbstract}
+use Rattle.meaning.specs.Scalars.{Stage, some?}
+use Rattle.meaning.specs.Trees.{Ty, Ts, Val, Vm, typeOf, leaf, inner}
+use Rattle.meaning.specs.Answers.{Result, ok, _>>=_, _>>_, orNo, all, allSome}
+use Rattle.meaning.specs.Convert.{convVal, convLits, common, floatKind}
+use Rattle.meaning.specs.Build.{ctorLit, matShape, payloadsOfAll, toInner, matParts, matOne, qmParts, qmOne}
+use Rattle.meaning.specs.Entries.{stageOf}
+use Rattle.kind.specs.Ends.{ofKind}
+use Rattle.ty.specs.Stands.{Stands}
+use Rattle.call.specs.Row.{Row}
+use Rattle.call.specs.Told.{Builds}
+use Rattle.call.specs.declared.Written.{Written}
+use Rattle.matrix.specs.declared.Inner.{Inner}
+use Rattle.matrix.specs.Shapes.{innerOf}
+
+-- at least one argument, and how many there are
+pub record SomeGiven (s : List ℕ) (count : ℕ) : Type 0 where
+  pub value : Val
+  pub others : List Val
+  pub row : Row s 0 (value ∷ others)
+  pub size : count ≡ length (value ∷ others)
+
+-- ---- a matrix type
+
+-- "7 if that doesn't convert"
+abbrev pub GoesDown : ℕ → List ℕ → Bool → Type 0
+GoesDown k ty x = (j : Kind) (t : Ty) (e : ℕ) → k ≡ kindNo j → Stands 15 ty 0 t e → x ≡ some? (toInner j t)
+
+-- the type u, whose kind is j, stands in ty; the arguments are l
+pub record To (k : ℕ) (ty s : List ℕ) (count : ℕ) (j : Kind) (u : Ty) (l : List Val) : Type 0 where
+  pub no : k ≡ kindNo j
+  pub end : ℕ
+  pub stands : Stands 15 ty 0 u end
+  pub bottom : leaf u ≡ some j
+  pub row : Row s 0 l
+  pub size : count ≡ length l
+
+pub record SomeTo (k : ℕ) (ty s : List ℕ) (count : ℕ) : Type 0 where
+  pub kind : Kind
+  pub type : Ty
+  pub values : List Val
+  pub to : To k ty s count kind type values
+
+-- "all convert to that (10), rows (14), columns or c × r scalars (8), 13"
+unfoldable pub matTo : ℕ → ℕ → Kind → Ty → List Val → Result Val
+matTo c r j u l = orNo 10 (allSome (convVal u) l) >>= λ ws. matShape c r u (length l) >> ok (Vm c r j (payloadsOfAll ws))
+
+abbrev pub ToMade : ℕ → ℕ → ℕ → List ℕ → List ℕ → ℕ → List ℕ → Written → List ℕ → Type 0
+ToMade c r k ty s count out x out′ = (j : Kind) (u : Ty) (l : List Val) → To k ty s count j u l → Builds (matTo c r j u l) out x out′
+
+abbrev pub MatParts : ℕ → ℕ → ℕ → List ℕ → ℕ → List ℕ → Written → List ℕ → Type 0
+MatParts c r k s count out x out′ = (j : Kind) (v : Val) (l : List Val) → k ≡ kindNo j → Row s 0 (v ∷ l) → count ≡ length (v ∷ l) → Builds (matParts c r j v l) out x out′
+
+-- the argument is one matrix of c columns and r rows, and the kind j is not abstract
+pub record MatrixArg (stage c r k : ℕ) (src : List ℕ) (s : Stage) (j i : Kind) (ps : List ℕ) : Type 0 where
+  pub staged : stageOf stage ≡ some s
+  pub no : k ≡ kindNo j
+  pub concrete : T (not (isAbstract j))
+  pub row : Row src 0 (Vm c r i ps ∷ [])
+
+pub record SomeMatrixArg (stage c r k : ℕ) (src : List ℕ) : Type 0 where
+  pub at : Stage
+  pub kind : Kind
+  pub from : Kind
+  pub pays : List ℕ
+  pub arg : MatrixArg stage c r k src at kind from pays
+
+abbrev pub Remade : ℕ → ℕ → ℕ → ℕ → List ℕ → List ℕ → Written → List ℕ → Type 0
+Remade stage c r k src out x out′ = (s : Stage) (j i : Kind) (ps : List ℕ) → MatrixArg stage c r k src s j i ps → Builds (all (ctorLit s j i) ps >>= λ qs. ok (Vm c r j qs)) out x out′
+
+abbrev pub MatOne : ℕ → ℕ → ℕ → ℕ → List ℕ → List ℕ → Written → List ℕ → Type 0
+MatOne stage c r k src out x out′ = (s : Stage) (j : Kind) (v : Val) → stageOf stage ≡ some s → k ≡ kindNo j → Row src 0 (v ∷ []) → Builds (matOne s c r j v) out x out′
+
+-- ---- `Qm`
+
+-- "float, AbstractInt becoming AbstractFloat", by the kind's number
+unfoldable pub floatOf : ℕ → Inner
+floatOf k = innerOf (ofKind none (λ j. floatKind (Ts j)) (kindOf k))
+
+abbrev pub QmKind : List ℕ → Inner → Type 0
+QmKind ty x = (t : Ty) (e : ℕ) → Stands 15 ty 0 t e → x ≡ innerOf (floatKind (inner t))
+
+-- the arguments are l, and their common type t stands in ty
+pub record Typed (ty s : List ℕ) (count : ℕ) (t : Ty) (l : List Val) : Type 0 where
+  pub end : ℕ
+  pub stands : Stands 15 ty 0 t end
+  pub is : common (map typeOf l) ≡ some t
+  pub row : Row s 0 l
+  pub size : count ≡ length l
+
+pub record SomeTyped (ty s : List ℕ) (count : ℕ) : Type 0 where
+  pub type : Ty
+  pub values : List Val
+  pub typed : Typed ty s count type values
+
+-- "float (13); conversion (10); rows (14); count (8); 13"
+unfoldable pub qmTo : ℕ → ℕ → Ty → List Val → Result Val
+qmTo c r t l = orNo 13 (floatKind (inner t)) >>= λ k. orNo 10 (allSome (convLits k) l) >>= λ ws. matShape c r t (length l) >> ok (Vm c r k (payloadsOfAll ws))
+
+abbrev pub QmMade : ℕ → ℕ → List ℕ → List ℕ → ℕ → List ℕ → Written → List ℕ → Type 0
+QmMade c r ty s count out x out′ = (t : Ty) (l : List Val) → Typed ty s count t l → Builds (qmTo c r t l) out x out′
+
+abbrev pub QmParts : ℕ → ℕ → List ℕ → ℕ → List ℕ → Written → List ℕ → Type 0
+QmParts c r s count out x out′ = (l : List Val) → Row s 0 l → 1 ≤ length l → count ≡ length l → Builds (qmParts c r l) out x out′
+
+abbrev pub QmOne : ℕ → ℕ → List ℕ → List ℕ → Written → List ℕ → Type 0
+QmOne c r src out x out′ = (v : Val) → Row src 0 (v ∷ []) → Builds (qmOne c r v) out x out′

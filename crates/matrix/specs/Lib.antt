@@ -1,0 +1,3 @@
+pub mod Columns
+pub mod Shapes
+pub mod Asked

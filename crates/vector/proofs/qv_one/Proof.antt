@@ -1,0 +1,47 @@
+-- A literal is repeated, a vector of that length kept, anything else is one part.
+use native.Mathlib.Omega.{arith}
+use borrow.Author.Needs.{needs}
+use lib.ListN.{getD}
+use Rattle.conv.proofs.Bytes.{width-small}
+use Rattle.call.proofs.Answers.{builds-as, builds-no, builds-miscount}
+use Rattle.vector.proofs.Args.{arg-front, arg-literal, arg-vector, arg-other, literal-bits, literal-good}
+use Rattle.vector.proofs.Ones.{qv-literal, qv-other-length, qv-length, qv-other}
+use Rattle.vector.proofs.qv_one.Statement.{statement}
+use Rattle.vector.proofs.qv_one.Tie as tie
+
+pub qv-one-spec : {M : Type 1} → statement M
+qv-one-spec =
+    tie.close
+    (tie.spec
+    -- shared-slice-read-mark
+    (λ c. omega (arith, arg-front (c .before .before .before .pre .1 .row)))
+    -- shared-slice-read-k
+    (λ c. omega (arith, arg-front (c .before .before .before .before .before .pre .1 .row)))
+    -- width-requires
+    (λ c κs. search needs)
+    -- get-le-requires
+    (λ c κs.
+    let x = arg-literal (c .before .before .before .before .before .before .pre .1 .row) (c .before .before .if1 .taken) in
+    (omega (arith, c .width .ensures, width-small (getD (c .before .before .before .before .before .before .args .args .now) 2 0)), omega (arith, c .width .ensures, x .room)))
+    -- repeated-requires
+    (λ c κs. let x = arg-literal (c .before .before .before .before .before .before .before .before .pre .1 .row) (c .before .before .before .before .if1 .taken) in record { kind = x .kind; no = x .no })
+    -- same-length
+    (λ c. search needs)
+    -- returns
+    (λ c v x.
+    let a = c .before .before .before .before .before .before .before .before .before .before .before .args in
+    let y = arg-literal x (c .before .before .before .before .before .before .before .if1 .taken) in
+    let q = literal-bits y (c .before .before .before .before .before .width .ensures) (c .before .before .before .before .get-le .ensures) in
+    builds-as (a .out .now) (qv-literal (a .n) y q) (c .before .before .repeated .ensures (y .kind) (y .no) (literal-good y q)))
+    -- shared-slice-read-if3
+    (λ c. omega (arith, arg-front (c .before .before .before .before .before .before .pre .1 .row)))
+    -- returns-2
+    (λ c v x. let a = c .before .before .before .before .before .before .before .args in builds-no (a .out .now) 7 (qv-other-length (a .n) (arg-vector x (c .before .before .if2 .taken)) (c .if3 .taken)))
+    -- kept-requires
+    (λ c κs. search needs)
+    -- same-length-2
+    (λ c. search needs)
+    -- returns-3
+    (λ c v x. let a = c .before .before .before .before .before .before .before .before .before .before .before .args in builds-as (a .out .now) (qv-length (a .n) (arg-vector x (c .before .before .before .before .before .before .if2 .taken)) (c .before .before .before .before .if3 .left)) (c .before .before .kept .ensures v x))
+    -- returns-4
+    (λ c v x. let a = c .before .before .before .before .before .args in builds-miscount (a .out .now) (a .n) 1 (qv-other (a .n) v (c .before .before .before .before .before .pre .0) (arg-other x (c .before .if1 .left) (c .if2 .left)))))
