@@ -236,12 +236,13 @@ fn compare(group: &Group, out: &mut [u8]) {
 }
 
 fn main() {
+    let only = std::env::args().nth(1);
     let mut out = vec![0u8; 1 << 20];
     println!(
         "{:<32} {:>10} {:>12} {:>12} {:>12} {:>8} {:>8}",
         "", "literals", "library", "Rust, all", "Rust, call", "ratio", "ratio"
     );
-    for group in groups() {
+    for group in groups().into_iter().filter(|g| only.as_ref().is_none_or(|o| g.name.contains(o.as_str()))) {
         compare(&group, &mut out);
         let decoded: Vec<Decoded> = group.calls.iter().map(|c| decode(c).expect("a well-formed call")).collect();
         let library = median_ns(|| {

@@ -1,3 +1,4 @@
--- answers; arguments
+-- answers; arguments; literals among them
 pub mod Answers
 pub mod Rows
+pub mod Literals

@@ -17,11 +17,14 @@ pub struct Step {
     pub ty: usize,
 }
 
-// The end of the argument at i.
+// The end of the argument at i; a literal's, which most are, without asking what it is.
 pub fn next_arg(args: &[u8], i: usize) -> usize
     requires { ⌜ SomeArg (now args) i ⌝ }
     ensures { λ r. ⌜ Skips (now (args .entry)) i r ⌝ }
 {
+    if args[i + 1] == b's' {
+        return i + ty::literal_len(args[i + 2]);
+    }
     inst::value_end(args, i, 15)
 }
 

@@ -25,7 +25,8 @@ use Rattle.ty.proofs.Places.{at-of, same-type}
 use Rattle.inst.proofs.Writes.{three-sets, wrote-stands}
 use Rattle.conv.proofs.Ranks.{between}
 use Rattle.call.specs.Row.{Row, NextIs}
-use Rattle.call.proofs.Rows.{next-at, row-has}
+use Rattle.call.proofs.Rows.{row-has}
+use Rattle.call.proofs.Literals.{least, LiteralIs, mark, literal-by, literal-end}
 use Rattle.lists.specs.Lists.{partOf, partType, partTypes, PartIs, Commons, Goes, KindConverts, KindMet, KindsMeet}
 use Rattle.lists.specs.declared.Common.{Common}
 use Rattle.lists.specs.declared.Met.{Met}
@@ -53,22 +54,6 @@ module _ {from to : ℕ} (a b : Kind) (e : from ≡ kindNo a) (f : to ≡ kindNo
 
 -- ---- a literal among the arguments
 
--- no value's record is shorter
-least : (v : Val) → 3 ≤ length (valBytes v)
-unfolding valBytes litBytes vecBytes
-least (Vs k p) = omega arith
-least (Vv k ps) = omega arith
-least (Vm c r k ps) = omega arith
-least (Va l) = omega (arith, length-append (le 2 (countVals l)) (valsBytes l), le-len 2 (countVals l))
-least (Vu i l) = omega (arith, length-append (le 2 i) (le 2 (countVals l) ++ valsBytes l), le-len 2 i)
-
--- the value v is a literal, of the kind whose number stands in its record
-pub record LiteralIs (s : List ℕ) (i : ℕ) (v : Val) : Type 0 where
-  pub kind : Kind
-  pub payload : ℕ
-  pub is : v ≡ Vs kind payload
-  pub no : getD s (i + 2) 0 ≡ kindNo kind
-
 module _ {s : List ℕ} {i : ℕ} where
   pub row-three : (l : List Val) → Row s i l → i < length s → i + 3 ≤ length s
   row-three l x h =
@@ -76,18 +61,6 @@ module _ {s : List ℕ} {i : ℕ} where
       omega (arith, row-has (m .row) .bytes .within, least (m .value))
 
   module _ {l : List Val} where
-    mark : {v : Val} {n : ℕ} → Row s i (v ∷ l) → getD (valBytes v ++ joined valBytes l) 1 0 ≡ n → getD s (i + 1) 0 ≡ n
-    unfolding joined
-    mark {v} x h = at-of s (valBytes v ++ joined valBytes l) i (x .here) 1 ∙ h
-
-    pub literal-by : {v : Val} → Row s i (v ∷ l) → getD s (i + 1) 0 ≡ ‘s’ → LiteralIs s i v
-    unfolding joined valBytes litBytes vecBytes
-    literal-by {v = Vs k p} x h = record { kind = k; payload = p; is = refl; no = at-of s (valBytes (Vs k p) ++ joined valBytes l) i (x .here) 2 }
-    literal-by {v = Vv k ps} x h = absurd (omega (arith, mark x refl))
-    literal-by {v = Vm c r k ps} x h = absurd (omega (arith, mark x refl))
-    literal-by {v = Va m} x h = absurd (omega (arith, mark x refl))
-    literal-by {v = Vu j m} x h = absurd (omega (arith, mark x refl))
-
     pub other-by : {v : Val} → Row s i (v ∷ l) → (getD s (i + 1) 0 ≡ ‘s’ → ⊥) → (k : Kind) → converts (typeOf v) (Ts k) ≡ false
     unfolding valBytes litBytes litKind typeOf
     other-by {v = Vs j p} x h k = absurd (h (mark x refl))
@@ -97,10 +70,6 @@ module _ {s : List ℕ} {i : ℕ} where
     other-by {v = Vu j m} x h k = not-to-scalar (typeOf (Vu j m)) k refl
 
 module _ {s : List ℕ} {i : ℕ} {v : Val} {l : List Val} (x : Row s i (v ∷ l)) (y : LiteralIs s i v) where
-  pub literal-next : {n : ℕ} → n ≡ i + litLen (y .kind) → NextIs s i v l n
-  unfolding valBytes
-  literal-next e = next-at x (e ∙ ap (λ (m : ℕ). i + m) (sym (ap (λ (w : Val). length (valBytes w)) (y .is) ∙ lit-len (y .kind) (y .payload))))
-
   pub literal-type : typeOf v ≡ Ts (y .kind)
   unfolding typeOf
   literal-type = ap typeOf (y .is)
@@ -120,14 +89,6 @@ IsScalar k t = (j : Kind) × (k ≡ kindNo j) × (t ≡ Ts j)
 module _ {s : List ℕ} {i : ℕ} {v : Val} {l : List Val} (x : Row s i (v ∷ l)) (y : LiteralIs s i v) where
   pub literal-fits : {k : ℕ} (j : Kind) → k ≡ kindNo j → {r : Bool} → KindConverts (getD s (i + 2) 0) k r → r ≡ converts (typeOf v) (Ts j)
   literal-fits j n f = f (y .kind) j (y .no) n ∙ ap (λ (t : Ty). converts t (Ts j)) (sym (literal-type x y))
-
-  -- where the next argument begins
-  pub literal-end : {n : ℕ} → Sized (getD s (i + 2) 0) litLen mostLit n → (i + n ≤ length s) × (i < i + n) × NextIs s i v l (i + n)
-  unfolding litLen
-  literal-end {n} z =
-      let e : n ≡ litLen (y .kind) = z .is (y .kind) (y .no) in
-      let w = literal-next x y (ap (λ (m : ℕ). i + m) e) in
-      (w .rest .within, omega arith, w)
 
 -- ---- a scalar so far
 

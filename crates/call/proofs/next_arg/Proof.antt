@@ -1,5 +1,8 @@
 -- The end of the value that stands there is the one value's end.
-use Rattle.call.proofs.Rows.{row-typed, next-at}
+use native.Mathlib.Omega.{arith}
+use borrow.Author.Needs.{needs}
+use Rattle.call.proofs.Rows.{row-typed, row-has, next-at}
+use Rattle.call.proofs.Literals.{least, literal-by, literal-end}
 use Rattle.call.proofs.next_arg.Statement.{statement}
 use Rattle.call.proofs.next_arg.Tie as tie
 
@@ -7,7 +10,21 @@ pub next-arg-spec : {M : Type 1} → statement M
 next-arg-spec =
     tie.close
     (tie.spec
-    -- value-end-requires
-    (λ c κs. let x = c .before .pre .row in record { type = _; end = _; typed = row-typed x })
+    -- add-if1
+    (λ c. search needs)
+    -- shared-slice-read-if1
+    (λ c. let x = c .before .before .pre in omega (arith, row-has (x .row) .bytes .within, least (x .value)))
+    -- add-literal-len
+    (λ c. search needs)
+    -- shared-slice-read-literal-len
+    (λ c. let x = c .before .before .before .before .pre in omega (arith, row-has (x .row) .bytes .within, least (x .value)))
+    -- literal-len-requires
+    (λ c κs. search needs)
+    -- add-result
+    (λ c. search needs)
     -- returns
+    (λ c v l x. literal-end x (literal-by x (c .before .before .if1 .taken)) (c .literal-len .ensures) .2)
+    -- value-end-requires
+    (λ c κs. let x = c .before .before .before .pre .row in record { type = _; end = _; typed = row-typed x })
+    -- returns-2
     (λ c v l x. next-at x (c .value-end .ensures _ _ (row-typed x))))

@@ -13,7 +13,8 @@ use Rattle.call.specs.Row.{Row}
 use Rattle.call.proofs.Rows.{row-none}
 use Rattle.lists.specs.Lists.{partTypes}
 use Rattle.lists.proofs.Left.{row-more, left-end}
-use Rattle.lists.proofs.Literals.{row-three, literal-by, literal-end, KindLeft, kind-all, kind-on, kind-never, kind-rest}
+use Rattle.call.proofs.Literals.{literal-by, literal-end}
+use Rattle.lists.proofs.Literals.{row-three, KindLeft, kind-all, kind-on, kind-never, kind-rest}
 use Rattle.lists.proofs.common_literals.Statement.{statement}
 use Rattle.lists.proofs.common_literals.Tie as tie
 

@@ -2,7 +2,8 @@
 use native.Mathlib.Omega.{arith}
 use borrow.Author.Needs.{needs}
 use lib.ListN.{length-set}
-use Rattle.lists.proofs.Literals.{arg-three, literal-by, literal-first}
+use Rattle.call.proofs.Literals.{literal-by}
+use Rattle.lists.proofs.Literals.{arg-three, literal-first}
 use Rattle.lists.proofs.first_type.Statement.{statement}
 use Rattle.lists.proofs.first_type.Tie as tie
 

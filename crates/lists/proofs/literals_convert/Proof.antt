@@ -11,7 +11,8 @@ use Rattle.meaning.specs.Trees.{Ty, Val, typeOf}
 use Rattle.meaning.specs.Convert.{converts}
 use Rattle.call.specs.Row.{Row}
 use Rattle.lists.proofs.Converts.{ToLeft, to-all, to-more, to-no, to-on, to-end}
-use Rattle.lists.proofs.Literals.{IsScalar, row-three, literal-by, other-by, literal-fits, literal-end}
+use Rattle.call.proofs.Literals.{literal-by, literal-end}
+use Rattle.lists.proofs.Literals.{IsScalar, row-three, other-by, literal-fits}
 use Rattle.lists.proofs.literals_convert.Statement.{statement}
 use Rattle.lists.proofs.literals_convert.Tie as tie
 
