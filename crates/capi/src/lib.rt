@@ -2,7 +2,7 @@
 use call::Written;
 use conv::Ranked;
 ghost use lib.ListN.{length};
-ghost use Rattle.meaning.specs.Entries.{rankAnswer, convertAnswer, buildAnswer};
+ghost use Rattle.meaning.specs.Entries.{rankAnswer, convertAnswer, buildAnswer, typeAnswer};
 ghost use Rattle.capi.specs.Numbers.{Ranks, InNumbers, Records};
 
 // The number of the refusal, or 0; the rank, or the record's length; and for the refusal 8 the count wanted and the count given.
@@ -72,4 +72,11 @@ pub extern "C" fn vireo_call_ctor(stage: u8, target: &[u8], args: &[u8], out: &m
     ensures { λ r. ⌜ Records (buildAnswer stage (now (target .entry)) (now (args .entry)) (length (now (out .entry)))) (now (out .entry)) (r .refusal) (r .value) (r .wanted) (r .given) (now (out .exit)) ⌝ }
 {
     in_numbers(builtin::call_ctor(stage, target, args, out))
+}
+
+#[no_mangle]
+pub extern "C" fn vireo_type_ctor(target: &[u8], args: &[u8], out: &mut [u8]) -> Answer
+    ensures { λ r. ⌜ Records (typeAnswer (now (target .entry)) (now (args .entry)) (length (now (out .entry)))) (now (out .entry)) (r .refusal) (r .value) (r .wanted) (r .given) (now (out .exit)) ⌝ }
+{
+    in_numbers(typing::type_ctor(target, args, out))
 }

@@ -216,7 +216,7 @@ pub fn common_type_of(args: &[u8], flat: bool, ty: &mut [u8]) -> Common
 // ---- the same for types in a row
 
 // The end of the type's record at i.
-fn next_end(types: &[u8], i: usize) -> usize
+pub fn next_end(types: &[u8], i: usize) -> usize
     requires { ⌜ SomeType (now types) i ⌝ }
     ensures { λ r. ⌜ SkipsType (now (types .entry)) i r ⌝ }
 {
