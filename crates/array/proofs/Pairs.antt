@@ -19,7 +19,8 @@ use Rattle.conv.specs.Ranked.{Whole, ConvertsIs}
 use Rattle.conv.specs.Values.{ValueTo, HasVal, ValueFits}
 use Rattle.call.specs.Row.{SomeArg, NextIs, TypeIs}
 use Rattle.call.proofs.Rows.{row-has, some-val}
-use Rattle.lists.proofs.Places.{cut-whole, front-whole}
+use Rattle.conv.proofs.Fronts.{front-whole}
+use Rattle.lists.proofs.Places.{cut-whole}
 use Rattle.array.specs.Members.{EndsAt, Pairs, MemberEnds}
 
 -- nothing, by a test that failed

@@ -33,17 +33,6 @@ use Rattle.builtin.specs.Calls.{Given, SomeGiven, BuildsOf, Answers, bui
 
 -- ---- the stage
 
-pub record StageIs (n : ℕ) : Type 0 where
-  pub stage : Stage
-  pub is : stageOf n ≡ some stage
-
-pub stage-is : (n : ℕ) → n ≤ 2 → StageIs n
-unfolding stageOf
-stage-is zero h = record { stage = Const; is = refl }
-stage-is (suc zero) h = record { stage = Override; is = refl }
-stage-is (suc (suc zero)) h = record { stage = Exec; is = refl }
-stage-is (suc (suc (suc n))) h = absurd (omega arith)
-
 stage-over : (n : ℕ) → 2 < n → stageOf n ≡ none
 unfolding stageOf
 stage-over zero h = absurd (omega arith)

@@ -1,16 +1,18 @@
 -- A refusal leaves the buffer; a record that was stored at the front of it is what `laid` says.
 use mathlib.Core.Path.{_≡_, refl, sym, ap, _∙_, subst}
+use mathlib.Core.Option.{some}
 use mathlib.Core.List.{List}
-use Prim.Native.Nat.{ℕ, _+_, _≤_, _<_}
+use Prim.Native.Nat.{ℕ, zero, suc, _+_, _≤_, _<_}
 use native.Mathlib.Omega.{arith}
 use borrow.Author.Tests.{le-leb, lt-leb}
 use lib.Dec.{T}
 use lib.ListN.{length}
 use lib.Seq.{sets-eq}
+use Rattle.meaning.specs.Scalars.{Stage, Const, Override, Exec}
 use Rattle.meaning.specs.Trees.{Val, typeOf, valLen}
 use Rattle.meaning.specs.Records.{valBytes, shapedVal}
 use Rattle.meaning.specs.Answers.{Result, ok, no, miscount, Answer, _>>=_}
-use Rattle.meaning.specs.Entries.{laid, handVal}
+use Rattle.meaning.specs.Entries.{stageOf, laid, handVal}
 use Rattle.laws.proofs.Length.{val-len}
 use Rattle.conv.specs.Writers.{Put}
 use Rattle.call.specs.Told.{answerOf, Told, Builds}
@@ -53,3 +55,13 @@ module _ {x : Result Val} (out : List ℕ) where
   unfolding handVal
   builds-record v e g h p =
       builds-as e (written (valBytes v) (rw (le-leb (valLen (typeOf v)) (length out) h)) (omega (arith, val-len v g)) p)
+
+-- ---- the stage
+
+-- "Stage: 0 Const, 1 Override, 2 Exec"
+pub stage-is : (n : ℕ) → n ≤ 2 → (s : Stage) × (stageOf n ≡ some s)
+unfolding stageOf
+stage-is zero h = (Const, refl)
+stage-is (suc zero) h = (Override, refl)
+stage-is (suc (suc zero)) h = (Exec, refl)
+stage-is (suc (suc (suc n))) h = absurd (omega arith)

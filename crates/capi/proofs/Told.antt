@@ -4,11 +4,11 @@ use mathlib.Core.List.{List}
 use Prim.Native.Nat.{ℕ}
 use native.Mathlib.Omega.{arith}
 use lib.ListN.{length}
-use Rattle.meaning.specs.Answers.{ok, no, miscount, Answer}
+use Rattle.meaning.specs.Answers.{ok, no, miscount, Answer, refusalOf}
 use Rattle.call.specs.Told.{Told, answerOf}
 use Rattle.call.specs.declared.Written.{Written}
 use Rattle.call.specs.declared.Written.the-variants as written
-use Rattle.capi.specs.Numbers.{Numbers, InNumbers, Records, refusalOf, valueOf, wantedOf, givenOf}
+use Rattle.capi.specs.Numbers.{Numbers, InNumbers, Records, valueOf, wantedOf, givenOf}
 
 pub recorded : (n : ℕ) {x : Written} → x ≡ written.Record n → InNumbers x 0 n 0 0
 unfolding answerOf refusalOf valueOf wantedOf givenOf

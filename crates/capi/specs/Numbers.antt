@@ -3,15 +3,10 @@ use mathlib.Core.Path.{_≡_}
 use mathlib.Core.List.{List}
 use Prim.Native.Nat.{ℕ}
 use lib.ListN.{length}
-use Rattle.meaning.specs.Answers.{Result, ok, no, miscount, Answer}
+use Rattle.meaning.specs.Answers.{Result, ok, no, miscount, Answer, refusalOf}
 use Rattle.meaning.specs.Entries.{laid}
 use Rattle.call.specs.Told.{answerOf}
 use Rattle.call.specs.declared.Written.{Written}
-
-unfoldable pub refusalOf : {A : Type 0} → Result A → ℕ
-refusalOf (ok a) = 0
-refusalOf (no n) = n
-refusalOf (miscount w g) = 8
 
 unfoldable pub valueOf : {A : Type 0} → (A → ℕ) → Result A → ℕ
 valueOf f (ok a) = f a

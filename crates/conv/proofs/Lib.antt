@@ -6,3 +6,4 @@ pub mod Loops
 pub mod Written
 pub mod Values
 pub mod Types
+pub mod Fronts

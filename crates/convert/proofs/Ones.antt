@@ -111,15 +111,3 @@ module _ (g : Target) {s : List ℕ} (room : ℕ) where
       go (some []) e = refl
       go (some (v ∷ [])) e = absurd (not-one b f v e)
       go (some (v ∷ w ∷ l)) e = refl
-
--- the front of a buffer, up to where a type's record ends
-pub front-whole : {s : List ℕ} {t : Ty} {q : ℕ} → Stands 15 s 0 t q → Whole (take q s) t
-front-whole {s} {t} {q} w =
-    let e : take q s ≡ tyBytes t = ap (take q) (w .here) ∙ take-at (tyBytes t) (drop q s) q (omega (arith, w .size)) in
-    record {
-      here = rw (drop-length (take q s)) (e ∙ sym (append-nil (tyBytes t)));
-      size = omega (arith, ap length e);
-      within = omega arith;
-      shaped = w .shaped;
-      deep = w .deep;
-    }

@@ -20,7 +20,8 @@ use Rattle.ty.proofs.Targets.{whole-bytes, good-length}
 use Rattle.inst.proofs.Writes.{wrote-stands}
 use Rattle.conv.specs.Writers.{Put}
 use Rattle.convert.specs.Asked.{OneValue, Asked, Runtime, converted, convertedRuntime, convertRead}
-use Rattle.convert.proofs.Ones.{one-type, one-read, front-whole}
+use Rattle.conv.proofs.Fronts.{front-whole}
+use Rattle.convert.proofs.Ones.{one-type, one-read}
 
 pub record ArrayOf (t : Ty) : Type 0 where
   pub count : ℕ

@@ -44,9 +44,6 @@ cut-to {d} {s} {at} {e} f h {t} w = cut-whole (subst (Stands d s at t) (same-end
 pub whole-put : {s out out′ : List ℕ} {t : Ty} {r : ℕ} → Whole s t → Put out 0 (take (length s - 0) (drop 0 s)) r out′ → length s ≤ length out → Stands 15 out′ 0 t r
 whole-put w p h = cut-put w p (omega (arith, w .size))
 
-pub front-whole : {s : List ℕ} {t : Ty} {q : ℕ} → Stands 15 s 0 t q → Whole (take q s) t
-front-whole {q = q} w = let z : q - 0 ≡ q = omega arith in rw z at (cut-whole w (omega arith))
-
 -- ---- what a type's record brings
 
 part-in : {s : List ℕ} (t : Ty) {e n k : ℕ} → Stands 15 s 0 t e → VectorIs 15 s 0 n k t e → Stands 15 s 3 (partOf t) e

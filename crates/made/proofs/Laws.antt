@@ -13,7 +13,7 @@ use Rattle.meaning.specs.Kinds.{Kind, kindNo, isAbstract}
 use Rattle.meaning.specs.Scalars.{Stage, fitsCtor}
 use Rattle.meaning.specs.Trees.{Tv, Tm, Val, Vs, Vv, Vm, typeOf}
 use Rattle.meaning.specs.Records.{columns, valBytes, every, goodLit, shapedVal}
-use Rattle.meaning.specs.Answers.{Result, ok, no, miscount, _>>=_, all}
+use Rattle.meaning.specs.Answers.{Result, ok, no, miscount, _>>=_, all, refusalOf}
 use Rattle.meaning.specs.Build.{ctorLit}
 use Rattle.meaning.specs.Entries.{stageOf}
 use Rattle.laws.specs.Demand.{refused, litFits}
@@ -27,7 +27,7 @@ use Rattle.conv.specs.Writers.{Put}
 use Rattle.conv.specs.Items.{Item, Literal, Vector, Matrix, bytesOf, columnItems, itemsOf, ItemsAt, SomeItems}
 use Rattle.conv.specs.Values.{HasVal, plain}
 use Rattle.conv.proofs.Values.{items-bytes, items-good, items-at}
-use Rattle.made.specs.Made.{makeItem, makeItems, refusalOf, AllMade, Makeable, Makes}
+use Rattle.made.specs.Made.{makeItem, makeItems, AllMade, Makeable, Makes}
 use Rattle.made.proofs.Results.{Numbered, number-ok, number-no, refusal-map, ctor-numbered, all-numbered, all-length, all-append}
 
 module _ (s : Stage) (k j : Kind) where

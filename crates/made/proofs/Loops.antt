@@ -7,13 +7,13 @@ use lib.ListN.{length, length-append}
 use Rattle.meaning.specs.Kinds.{Kind}
 use Rattle.meaning.specs.Scalars.{Stage}
 use Rattle.meaning.specs.Records.{joined}
-use Rattle.meaning.specs.Answers.{ok, all}
+use Rattle.meaning.specs.Answers.{ok, all, refusalOf}
 use Rattle.laws.proofs.Named.{ok-inj}
 use Rattle.conv.specs.Writers.{Put}
 use Rattle.conv.specs.Items.{Item, itemBytes, bytesOf, SomeItem, ItemsAt, EndIs}
 use Rattle.conv.proofs.Bytes.{put-nil, put-put}
 use Rattle.conv.proofs.Steps.{item-some, First, first-item, no-items}
-use Rattle.made.specs.Made.{makeItem, makeItems, refusalOf, Ctor, ItemMade, ItemRoom, ItemPut, Makeable}
+use Rattle.made.specs.Made.{makeItem, makeItems, Ctor, ItemMade, ItemRoom, ItemPut, Makeable}
 use Rattle.made.proofs.Results.{Cons, all-cons, item-numbered, first-refuses, others-decide}
 
 -- ---- the decision: what is left is refused as all is

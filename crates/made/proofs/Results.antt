@@ -8,11 +8,11 @@ use lib.Dec.{eqb, eqb·suc-zero}
 use lib.ListN.{length}
 use Rattle.meaning.specs.Kinds.{Kind, sameKind}
 use Rattle.meaning.specs.Scalars.{Stage, ctorTest, ctorBits}
-use Rattle.meaning.specs.Answers.{Result, ok, no, miscount, _>>=_, _>>_, need, all}
+use Rattle.meaning.specs.Answers.{Result, ok, no, miscount, _>>=_, _>>_, need, all, refusalOf}
 use Rattle.meaning.specs.Build.{ctorLit}
 use Rattle.laws.proofs.Named.{bind-ok, ok-inj}
 use Rattle.conv.specs.Items.{Item, Literal, Vector, Matrix, Array}
-use Rattle.made.specs.Made.{makeItem, refusalOf}
+use Rattle.made.specs.Made.{makeItem}
 
 -- ---- an answer that its number tells: it is no miscount, and no refusal has the number 0
 

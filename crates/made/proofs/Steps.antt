@@ -9,7 +9,7 @@ use Rattle.meaning.specs.Kinds.{Kind, isAbstract}
 use Rattle.meaning.specs.Scalars.{Stage}
 use Rattle.meaning.specs.Trees.{litLen}
 use Rattle.meaning.specs.Records.{‘s’, litBytes}
-use Rattle.meaning.specs.Answers.{Result, ok, _>>=_}
+use Rattle.meaning.specs.Answers.{Result, ok, _>>=_, refusalOf}
 use Rattle.meaning.specs.Build.{ctorLit}
 use Rattle.laws.proofs.AgreeLit.{kind-back}
 use Rattle.laws.proofs.AgreeConv.{true-of}
@@ -24,7 +24,7 @@ use Rattle.conv.specs.Writers.{Put, widthOf, literalOf}
 use Rattle.conv.specs.Items.{Item, Literal, Vector, Matrix, Array, itemBytes, ItemAt}
 use Rattle.conv.proofs.Bytes.{width-of, literal-bytes}
 use Rattle.conv.proofs.Steps.{LiteralIs, literal-here, mark-stays, mark-put}
-use Rattle.made.specs.Made.{makeItem, refusalOf, Ctor, madeAt}
+use Rattle.made.specs.Made.{makeItem, Ctor, madeAt}
 use Rattle.made.proofs.Results.{refusal-map}
 
 -- ---- a mark stays as it is

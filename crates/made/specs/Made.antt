@@ -11,7 +11,7 @@ use Rattle.meaning.specs.Kinds.{Kind, kindNo, isAbstract}
 use Rattle.meaning.specs.Scalars.{Stage}
 use Rattle.meaning.specs.Trees.{Ts, Val, Vs}
 use Rattle.meaning.specs.Records.{goodLit}
-use Rattle.meaning.specs.Answers.{Result, ok, no, miscount, _>>=_, all}
+use Rattle.meaning.specs.Answers.{Result, ok, _>>=_, all, refusalOf}
 use Rattle.meaning.specs.Build.{ctorLit, buildOne}
 use Rattle.meaning.specs.Entries.{stageOf}
 use Rattle.literal.specs.Told.{paper, ctorBetween}
@@ -32,12 +32,6 @@ makeItem s k (Array n) = ok (Array n)
 -- each in order, up to the first refusal
 abbrev pub makeItems : Stage → Kind → List Item → Result (List Item)
 makeItems s k l = all (makeItem s k) l
-
--- 0, or the number of the refusal
-unfoldable pub refusalOf : {A : Type 0} → Result A → ℕ
-refusalOf (ok a) = 0
-refusalOf (no n) = n
-refusalOf (miscount w g) = 8
 
 -- ---- one item
 

@@ -5,10 +5,11 @@ use literal::Made;
 ghost use mathlib.Core.Path.{_≡_};
 ghost use Prim.Native.Nat.{_+_, _≤_};
 ghost use lib.ListN.{length, getD};
+ghost use Rattle.meaning.specs.Answers.{refusalOf};
 ghost use Rattle.literal.specs.Told.{paper};
 ghost use Rattle.conv.specs.Writers.{widthOf};
 ghost use Rattle.conv.specs.Items.{SomeItem, SomeItems};
-ghost use Rattle.made.specs.Made.{refusalOf, madeAt, ItemMade, ItemRoom, ItemPut, AllMade, Makeable, Makes, SomeKind, OneArg, Handed, ScalarTold};
+ghost use Rattle.made.specs.Made.{madeAt, ItemMade, ItemRoom, ItemPut, AllMade, Makeable, Makes, SomeKind, OneArg, Handed, ScalarTold};
 
 // ---- one item of a value's record: a literal, or a mark with its counts
 

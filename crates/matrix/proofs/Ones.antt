@@ -182,10 +182,3 @@ module _ {stage c r k : ℕ} {src : List ℕ} {s : Stage} {j i : Kind} {ps : Lis
   remade-no e = rw e
 
 -- ---- a stage by its number
-
-pub stage-of : (n : ℕ) → n ≤ 2 → (s : Stage) × (stageOf n ≡ some s)
-unfolding stageOf
-stage-of zero h = (Const, refl)
-stage-of (suc zero) h = (Override, refl)
-stage-of (suc (suc zero)) h = (Exec, refl)
-stage-of (suc (suc (suc n))) h = absurd (omega arith)

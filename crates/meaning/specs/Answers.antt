@@ -55,3 +55,9 @@ allSome f (a ∷ l) = elim (f a) [ none ↦ none | some b ↦ elim (allSome f l)
 unfoldable pub mapSome : {A B : Type 0} → (A → B) → Option A → Option B
 mapSome f none = none
 mapSome f (some a) = some (f a)
+
+-- the number of the refusal, 0 where there is none
+unfoldable pub refusalOf : {A : Type 0} → Result A → ℕ
+refusalOf (ok a) = 0
+refusalOf (no n) = n
+refusalOf (miscount w g) = 8

@@ -12,9 +12,3 @@ unfoldable pub payloadOf : Result ℕ → ℕ
 payloadOf (ok p) = p
 payloadOf (no n) = 0
 payloadOf (miscount w g) = 0
-
--- the number of the refusal, or 0 where there is none
-unfoldable pub refusalOf : Result ℕ → ℕ
-refusalOf (ok p) = 0
-refusalOf (no n) = n
-refusalOf (miscount w g) = 8

@@ -5,7 +5,8 @@ ghost use mathlib.Core.Path.{_≡_};
 ghost use Rattle.meaning.specs.Floats.{binary16, binary32, binary64, value, bits};
 ghost use Rattle.meaning.specs.Scalars.{some?};
 ghost use Rattle.literal.specs.Told.{convBetween, ctorBetween};
-ghost use Rattle.single.specs.Numbers.{orZero, payloadOf, refusalOf};
+ghost use Rattle.meaning.specs.Answers.{refusalOf};
+ghost use Rattle.single.specs.Numbers.{orZero, payloadOf};
 
 #[no_mangle]
 pub extern "C" fn vireo_f64_to_f32(x: u64) -> u64

@@ -162,14 +162,6 @@ module _ {t : List ℕ} {v : Val} (w : Row t 0 (v ∷ [])) (x : IsVector t 0 v) 
       pub remade-put : {q : ℕ} {out′ : List ℕ} → Makes stage k t 0 (length t) out 0 q out′ → Put out 0 (valBytes (Vv j (y .pays))) q out′
       remade-put u = making-put (making s j) stage (c .staged) (c .no) (c .concrete) (y .goes) u
 
--- "Stage: 0 Const, 1 Override, 2 Exec"
-pub stage-is : (n : ℕ) → n ≤ 2 → (s : Stage) × (stageOf n ≡ some s)
-unfolding stageOf
-stage-is zero h = (Const, refl)
-stage-is (suc zero) h = (Override, refl)
-stage-is (suc (suc zero)) h = (Exec, refl)
-stage-is (suc (suc (suc n))) h = absurd (omega arith)
-
 pub vec-other : (s : Stage) (n : ℕ) (j : Kind) (v : Val) → T (side n) → flat v ≡ false → vecOne s n j v ≡ miscount n 1
 unfolding vecOne vecParts flat
 vec-other s n j (Vs k p) h x = true-false x

@@ -3,8 +3,8 @@ use mathlib.Core.Path.{sym, _∙_}
 use native.Mathlib.Omega.{arith}
 use borrow.Author.Needs.{needs}
 use Rattle.ty.proofs.Targets.{meant}
-use Rattle.call.proofs.Answers.{told-as, refused}
-use Rattle.builtin.proofs.Asked.{stage-is, no-stage, no-target, read-answer}
+use Rattle.call.proofs.Answers.{told-as, refused, stage-is}
+use Rattle.builtin.proofs.Asked.{no-stage, no-target, read-answer}
 use Rattle.builtin.proofs.call_ctor.Statement.{statement}
 use Rattle.builtin.proofs.call_ctor.Tie as tie
 
@@ -44,31 +44,31 @@ call-ctor-spec =
     (λ c.
     let s = stage-is _ (omega (arith, c .before .before .before .before .before .before .before .if1 .left)) in
     let m = meant (c .before .before .before .before .before .before .before .before .before .before .before .args .target .now) (λ i. c .before .before .before .before .before .before .before .before .before .before .shared-slice-known .given i .fits) (sym (c .before .before .before .before .enum-told .given .1) ∙ c .before .before .before .before .before .before .read-target .ensures) in
-    told-as (read-answer _ _ _ _ (s .is) (m .reads)) (c .before .before .type-call .ensures (s .stage) (m .type) (s .is) (m .stands)))
+    told-as (read-answer _ _ _ _ (s .1) (m .reads)) (c .before .before .type-call .ensures (s .0) (m .type) (s .1) (m .stands)))
     -- same-length-2
     (λ c. search needs)
     -- returns-3
     (λ c.
     let s = stage-is _ (omega (arith, c .before .before .before .before .before .before .before .if1 .left)) in
     let m = meant (c .before .before .before .before .before .before .before .before .before .before .before .args .target .now) (λ i. c .before .before .before .before .before .before .before .before .before .before .shared-slice-known .given i .fits) (sym (c .before .before .before .before .enum-told2 .given .1) ∙ c .before .before .before .before .before .before .read-target .ensures) in
-    told-as (read-answer _ _ _ _ (s .is) (m .reads)) (c .before .before .runtime-call .ensures (s .stage) (m .type) (m .stands)))
+    told-as (read-answer _ _ _ _ (s .1) (m .reads)) (c .before .before .runtime-call .ensures (s .0) (m .type) (m .stands)))
     -- same-length-3
     (λ c. search needs)
     -- returns-4
     (λ c.
     let s = stage-is _ (omega (arith, c .before .before .before .before .before .before .before .if1 .left)) in
-    told-as (read-answer _ _ _ _ (s .is) (meant (c .before .before .before .before .before .before .before .before .before .before .before .args .target .now) (λ i. c .before .before .before .before .before .before .before .before .before .before .shared-slice-known .given i .fits) (sym (c .before .before .before .before .enum-told3 .given .1) ∙ c .before .before .before .before .before .before .read-target .ensures))) (c .before .before .array-call .ensures (s .stage)))
+    told-as (read-answer _ _ _ _ (s .1) (meant (c .before .before .before .before .before .before .before .before .before .before .before .args .target .now) (λ i. c .before .before .before .before .before .before .before .before .before .before .shared-slice-known .given i .fits) (sym (c .before .before .before .before .enum-told3 .given .1) ∙ c .before .before .before .before .before .before .read-target .ensures))) (c .before .before .array-call .ensures (s .0)))
     -- same-length-4
     (λ c. search needs)
     -- returns-5
     (λ c.
     let s = stage-is _ (omega (arith, c .before .before .before .before .before .before .before .before .if1 .left)) in
-    told-as (read-answer _ _ _ _ (s .is) (meant (c .before .before .before .before .before .before .before .before .before .before .before .before .args .target .now) (λ i. c .before .before .before .before .before .before .before .before .before .before .before .shared-slice-known .given i .fits) (sym (c .before .before .before .before .before .n .given .1) ∙ c .before .before .before .before .before .before .before .read-target .ensures) .0)) (c .before .before .vector-call .ensures (s .stage)))
+    told-as (read-answer _ _ _ _ (s .1) (meant (c .before .before .before .before .before .before .before .before .before .before .before .before .args .target .now) (λ i. c .before .before .before .before .before .before .before .before .before .before .before .shared-slice-known .given i .fits) (sym (c .before .before .before .before .before .n .given .1) ∙ c .before .before .before .before .before .before .before .read-target .ensures) .0)) (c .before .before .vector-call .ensures (s .0)))
     -- same-length-5
     (λ c. search needs)
     -- returns-6
     (λ c.
     let s = stage-is _ (omega (arith, c .before .before .before .before .before .before .before .before .if1 .left)) in
-    told-as (read-answer _ _ _ _ (s .is) (meant (c .before .before .before .before .before .before .before .before .before .before .before .before .args .target .now) (λ i. c .before .before .before .before .before .before .before .before .before .before .before .shared-slice-known .given i .fits) (sym (c .before .before .before .before .before .c .given .1) ∙ c .before .before .before .before .before .before .before .read-target .ensures) .0)) (c .before .before .matrix-call .ensures (s .stage)))
+    told-as (read-answer _ _ _ _ (s .1) (meant (c .before .before .before .before .before .before .before .before .before .before .before .before .args .target .now) (λ i. c .before .before .before .before .before .before .before .before .before .before .before .shared-slice-known .given i .fits) (sym (c .before .before .before .before .before .c .given .1) ∙ c .before .before .before .before .before .before .before .read-target .ensures) .0)) (c .before .before .matrix-call .ensures (s .0)))
     -- returns-7
-    (λ c. refused 1 _ (no-target _ _ _ _ (stage-is _ (omega (arith, c .before .before .before .if1 .left)) .is) (meant (c .before .before .before .before .before .before .before .args .target .now) (λ i. c .before .before .before .before .before .before .shared-slice-known .given i .fits) (sym (c .enum-told4 .given .1) ∙ c .before .before .read-target .ensures)))))
+    (λ c. refused 1 _ (no-target _ _ _ _ (stage-is _ (omega (arith, c .before .before .before .if1 .left)) .1) (meant (c .before .before .before .before .before .before .before .args .target .now) (λ i. c .before .before .before .before .before .before .shared-slice-known .given i .fits) (sym (c .enum-told4 .given .1) ∙ c .before .before .read-target .ensures)))))

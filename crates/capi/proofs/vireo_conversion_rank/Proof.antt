@@ -2,11 +2,11 @@
 use mathlib.Core.Path.{_≡_, refl, sym, ap, _∙_, subst}
 use Prim.Native.Nat.{ℕ}
 use borrow.Author.Needs.{needs}
-use Rattle.meaning.specs.Answers.{Result, ok, no}
+use Rattle.meaning.specs.Answers.{Result, ok, no, refusalOf}
 use Rattle.conv.specs.Ranked.{paper}
 use Rattle.conv.specs.declared.Ranked.{Ranked}
 use Rattle.conv.specs.declared.Ranked.the-variants as ranked
-use Rattle.capi.specs.Numbers.{Ranks, refusalOf, valueOf, wantedOf, givenOf}
+use Rattle.capi.specs.Numbers.{Ranks, valueOf, wantedOf, givenOf}
 use Rattle.capi.proofs.vireo_conversion_rank.Statement.{statement}
 use Rattle.capi.proofs.vireo_conversion_rank.Tie as tie
 

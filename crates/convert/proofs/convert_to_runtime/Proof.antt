@@ -6,7 +6,8 @@ use Rattle.meaning.specs.Trees.{Tr}
 use Rattle.convert.specs.Asked.{Singles}
 use Rattle.convert.specs.declared.Single.{Single}
 use Rattle.call.proofs.Answers.{refused, told-as}
-use Rattle.convert.proofs.Ones.{none-read, front-whole}
+use Rattle.conv.proofs.Fronts.{front-whole}
+use Rattle.convert.proofs.Ones.{none-read}
 use Rattle.convert.proofs.Runtimes.{runtime-read}
 use Rattle.convert.proofs.convert_to_runtime.Statement.{statement}
 use Rattle.convert.proofs.convert_to_runtime.Tie as tie

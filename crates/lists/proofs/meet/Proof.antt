@@ -2,7 +2,8 @@
 use mathlib.Core.Path.{sym, _∙_}
 use borrow.Author.Needs.{needs}
 use lib.Seq.{length-take-le}
-use Rattle.lists.proofs.Places.{front-whole, whole-put}
+use Rattle.conv.proofs.Fronts.{front-whole}
+use Rattle.lists.proofs.Places.{whole-put}
 use Rattle.lists.proofs.Meets.{meet-next, meet-kept, meet-none}
 use Rattle.lists.proofs.meet.Statement.{statement}
 use Rattle.lists.proofs.meet.Tie as tie

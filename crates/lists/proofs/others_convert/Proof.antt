@@ -10,7 +10,7 @@ use Rattle.meaning.specs.Trees.{Val}
 use Rattle.conv.specs.Ranked.{Whole}
 use Rattle.call.specs.Row.{Row}
 use Rattle.call.proofs.Rows.{row-some}
-use Rattle.lists.proofs.Places.{front-whole}
+use Rattle.conv.proofs.Fronts.{front-whole}
 use Rattle.lists.proofs.Converts.{ToLeft, to-all, to-next, to-no, to-on, to-end}
 use Rattle.lists.proofs.others_convert.Statement.{statement}
 use Rattle.lists.proofs.others_convert.Tie as tie

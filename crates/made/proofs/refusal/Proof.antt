@@ -1,7 +1,7 @@
 -- Each answer has its number.
 use borrow.Author.Needs.{needs}
 use Rattle.literal.specs.Told.{paper}
-use Rattle.made.specs.Made.{refusalOf}
+use Rattle.meaning.specs.Answers.{refusalOf}
 use Rattle.made.proofs.refusal.Statement.{statement}
 use Rattle.made.proofs.refusal.Tie as tie
 

@@ -6,7 +6,8 @@ use borrow.Author.Tests.{not-true, not-false}
 use Rattle.call.proofs.Answers.{builds-as, builds-no}
 use Rattle.made.proofs.Ones.{abstract-is, concrete}
 use Rattle.matrix.proofs.Downs.{float-no}
-use Rattle.matrix.proofs.Ones.{one-mark, mat-other, matrix-is, mat-unequal, equal-row, mat-abstract, mat-concrete, stage-of}
+use Rattle.call.proofs.Answers.{stage-is}
+use Rattle.matrix.proofs.Ones.{one-mark, mat-other, matrix-is, mat-unequal, equal-row, mat-abstract, mat-concrete}
 use Rattle.matrix.proofs.mat_one.Statement.{statement}
 use Rattle.matrix.proofs.mat_one.Tie as tie
 
@@ -36,7 +37,7 @@ mat-one-spec =
     let p = c .before .before .before .before .before .before .before .before .before .pre in
     let e = sym (c .before .before .before .before .same-size .ensures) ∙ not-false (c .before .before .before .before .same-size .result) (c .before .before .before .if2 .left) in
     let k = float-no _ (p .0 .2) in
-    let s = stage-of _ (p .0 .3) in
+    let s = stage-is _ (p .0 .3) in
     record {
       at = s .0;
       kind = k .0;

@@ -1,6 +1,6 @@
 use borrow.Author.Needs.{needs}
 use Rattle.literal.specs.Told.{paper}
-use Rattle.single.specs.Numbers.{refusalOf}
+use Rattle.meaning.specs.Answers.{refusalOf}
 use Rattle.single.proofs.Shown.{says}
 use Rattle.single.proofs.vireo_refusal.Statement.{statement}
 use Rattle.single.proofs.vireo_refusal.Tie as tie

@@ -9,7 +9,7 @@ use Rattle.meaning.specs.Build.{flattened}
 use Rattle.call.proofs.Answers.{builds-no, builds-miscount}
 use Rattle.lists.specs.Lists.{Commons}
 use Rattle.lists.specs.declared.Common.{Common}
-use Rattle.lists.proofs.Places.{front-whole}
+use Rattle.conv.proofs.Fronts.{front-whole}
 use Rattle.vector.proofs.Commons.{qv-miscount, qv-never}
 use Rattle.vector.proofs.qv_parts.Statement.{statement}
 use Rattle.vector.proofs.qv_parts.Tie as tie

@@ -7,7 +7,8 @@ use Rattle.made.specs.Made.{Ctor}
 use Rattle.made.proofs.Ones.{abstract-is, concrete}
 use Rattle.vector.proofs.Args.{arg-front, arg-vector}
 use Rattle.vector.proofs.Writes.{vector-long, whole-room, whole-record}
-use Rattle.vector.proofs.Ones.{stage-is, vec-other-length, vec-abstract, vector-items, made-no, remade, remade-room, remade-put}
+use Rattle.call.proofs.Answers.{stage-is}
+use Rattle.vector.proofs.Ones.{vec-other-length, vec-abstract, vector-items, made-no, remade, remade-room, remade-put}
 use Rattle.vector.proofs.rebuilt.Statement.{statement}
 use Rattle.vector.proofs.rebuilt.Tie as tie
 
