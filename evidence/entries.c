@@ -8,14 +8,6 @@
 
 static uint8_t want[MOST];
 
-static size_t unhex(const char *text, uint8_t *to)
-{
-    size_t n = 0;
-    if (!strcmp(text, "-")) return 0;
-    for (unsigned byte; sscanf(text + 2 * n, "%2x", &byte) == 1 && text[2 * n]; n++) to[n] = (uint8_t)byte;
-    return n;
-}
-
 /* every NaN of F32 and F16 as one: both records have the same marks, so they are walked together */
 static int same_but_nan(const uint8_t *a, const uint8_t *b, size_t n)
 {
@@ -40,10 +32,20 @@ static uint64_t nan_refusal(enum entry entry)
     return entry == CALL_CTOR && (target[0] == 'Q' || target[1] == 'm') ? 10 : 9;
 }
 
-static int agrees(enum entry entry, const struct line *l, struct answer r)
+/* how many type records lie in the arguments of a typing */
+static uint64_t types_given(size_t an)
+{
+    uint64_t n = 0;
+    int abstract;
+    for (const uint8_t *at = args; at < args + an; n++) at = past_type(at, &abstract);
+    return n;
+}
+
+static int agrees(enum entry entry, const struct line *l, size_t an, struct answer r)
 {
     if (!strcmp(l->class, "nan-fits")) return r.refusal == nan_refusal(entry);
     if (!strcmp(l->class, "rows")) return r.refusal == 14;
+    if (!strcmp(l->class, "wrap")) return r.refusal == 8 && r.wanted == target[2] && r.given == types_given(an);
     if (strcmp(l->told, "ok")) return r.refusal == strtoull(l->value, 0, 10) && r.wanted == l->wanted && r.given == l->given;
     size_t n = unhex(l->value, want);
     return !r.refusal && r.value == n && (!strcmp(l->class, "nan-bits") ? same_but_nan(space + GUARD, want, n) : !memcmp(space + GUARD, want, n));
@@ -52,7 +54,7 @@ static int agrees(enum entry entry, const struct line *l, struct answer r)
 static int replayed(enum entry entry, int stage, const struct line *l, size_t tn, size_t an)
 {
     struct answer r = call(entry, stage, tn, an, ROOM);
-    if (!agrees(entry, l, r) || !untouched(ROOM, r.refusal ? 0 : r.value)) return 0;
+    if (!agrees(entry, l, an, r) || !untouched(ROOM, r.refusal ? 0 : r.value)) return 0;
     if (r.refusal) return 1;
     uint64_t n = r.value;
     r = call(entry, stage, tn, an, n);
@@ -65,7 +67,7 @@ int main(void)
 {
     static char text[4 * MOST], entry[32], stage[4], t[2 * MOST], a[2 * MOST];
     static struct line l;
-    uint64_t ranks = 0, calls[2] = {0}, wrong = 0;
+    uint64_t ranks = 0, calls[3] = {0}, wrong = 0;
     while (fgets(text, sizeof text, stdin)) {
         l.value[0] = 0, l.wanted = l.given = 0;
         if (text[0] == '#' || sscanf(text, "%15s %31s %3s %2097151s %2097151s %7s %2097151s %" SCNu64 " %" SCNu64, l.class, entry, stage, t, a, l.told, l.value, &l.wanted, &l.given) < 6) continue;
@@ -78,6 +80,9 @@ int main(void)
         } else if (!strcmp(entry, "convert_to")) {
             same = replayed(CONVERT_TO, 0, &l, tn, an);
             calls[CONVERT_TO]++;
+        } else if (!strcmp(entry, "type_ctor")) {
+            same = replayed(TYPE_CTOR, 0, &l, tn, an);
+            calls[TYPE_CTOR]++;
         } else if (!strcmp(entry, "call_ctor"))
             for (int s = 0; s < 3; s++)
                 if (stage[0] == '*' || stage[0] == '0' + s) {
@@ -86,6 +91,6 @@ int main(void)
                 }
         if (!same && wrong++ < 5) fprintf(stderr, "differs: %.200s\n", text);
     }
-    printf("%" PRIu64 " ranks, %" PRIu64 " conversions and %" PRIu64 " builds of the Rust replayed, %" PRIu64 " differ\n", ranks, calls[CONVERT_TO], calls[CALL_CTOR], wrong);
-    return wrong != 0 || !(ranks + calls[0] + calls[1]);
+    printf("%" PRIu64 " ranks, %" PRIu64 " conversions, %" PRIu64 " builds and %" PRIu64 " typings of the Rust replayed, %" PRIu64 " differ\n", ranks, calls[CONVERT_TO], calls[CALL_CTOR], calls[TYPE_CTOR], wrong);
+    return wrong != 0 || !(ranks + calls[0] + calls[1] + calls[2]);
 }

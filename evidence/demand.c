@@ -1,0 +1,142 @@
+/* The third demand of document 00 on the answers of the two entries, from standard input: the `call_ctor` lines of the lists, each at all three stages.
+ *
+ * Typing gets the types of the arguments, worked out here from their records, and building the arguments; the target is the same. Whether every literal fits is
+ * worked out here too, from the words of document 01 and with the machine's own floats, so that "exactly when" is tried in both directions. The lists' own answers
+ * are not used. Exits 1 where anything is against the demand, or where no value was built.
+ */
+#include <float.h>
+#include <math.h>
+#include "records.h"
+
+static uint8_t types[MOST], named[MOST], built[MOST], again[MOST], target_was[MOST], args_was[MOST];
+
+/* a value record's type at `to`, and its length; the value is passed over. A record whose parts have not the type they must have has no type */
+static int typeless;
+static size_t type_of(const uint8_t **value, uint8_t *to)
+{
+    const uint8_t *v = *value, shape = v[1];
+    size_t head = shape == 's' || shape == 'v' ? 3 : shape == 'u' ? 6 : 4, n = head, first = 0;
+    size_t parts = shape == 's' ? 0 : shape == 'u' ? u16(v + 4) : shape == 'a' ? u16(v + 2) : v[2];
+    if (v[0] != 'V') { typeless = 1; return 0; }
+    memcpy(to, v, head);
+    to[0] = 'T';
+    *value += shape == 's' ? 11 : head;
+    for (size_t i = 0; i < parts && !typeless; i++) {
+        size_t part = type_of(value, to + n);
+        if (shape == 'u' || i == 0) n += first = part;
+        else if (part != first || memcmp(to + n - first, to + n, part)) typeless = 1;
+    }
+    if (shape != 'm') return n;
+    /* a matrix type names the scalar of its columns */
+    if (n != 10 || to[5] != 'v' || to[6] != v[3]) typeless = 1;
+    memmove(to + 4, to + 7, 3);
+    return 7;
+}
+
+/* the number of a literal of kind 1 to 5; one of 64 bits is rounded, which moves it across none of the bounds below */
+static double number(const uint8_t *v)
+{
+    int64_t i;
+    int32_t s;
+    uint32_t u;
+    double d;
+    float f;
+    memcpy(&i, v + 3, 8), memcpy(&s, v + 3, 4), memcpy(&u, v + 3, 4), memcpy(&d, v + 3, 8), memcpy(&f, v + 3, 4);
+    return v[2] == 1 ? (double)i : v[2] == 2 ? d : v[2] == 3 ? s : v[2] == 4 ? u : f;
+}
+
+/* how a call takes literals: by the scalar constructor at a stage, or by conversion */
+struct step { int made, stage; };
+
+/* whether a literal fits the kind it must become; a comparison with NaN is false */
+static int fits(const uint8_t *v, int kind, struct step by)
+{
+    int from = v[2];
+    if (from == kind || from == 0 || kind == 0) return 1;
+    if (kind == 3) return from != 1 || (number(v) >= INT32_MIN && number(v) <= INT32_MAX);
+    if (kind == 4) return from != 1 || (number(v) >= 0 && number(v) <= UINT32_MAX);
+    if (by.made && by.stage != 0) return 1;
+    if (kind == 5) return from != 2 || (by.made ? fabs(number(v)) <= FLT_MAX : fabs(number(v)) < 0x1.ffffffp127);
+    if (kind == 6) return by.made ? fabs(number(v)) <= 65504 : fabs(number(v)) < 65520;
+    return 1;
+}
+
+/* whether each literal of a value fits where it lands in the type; the value is passed over */
+static int lands(const uint8_t **value, const uint8_t *t, struct step by)
+{
+    const uint8_t *v = *value;
+    int all = 1, abstract;
+    if (v[1] == 's') {
+        *value += 11;
+        return fits(v, t[t[1] == 's' ? 2 : t[1] == 'v' ? 5 : 6], by);
+    }
+    *value += v[1] == 'v' ? 3 : v[1] == 'u' ? 6 : 4;
+    if (v[1] == 'u') {
+        t += 6;
+        for (size_t i = 0; i < u16(v + 4); i++, t = past_type(t, &abstract)) all &= lands(value, t, by);
+    } else
+        for (size_t i = 0; i < (v[1] == 'a' ? u16(v + 2) : v[2]); i++) all &= lands(value, v[1] == 'a' ? t + 4 : t, by);
+    return all;
+}
+
+/* the same for all arguments: in an array each lands in the element type, in a struct in its member, else in the whole */
+static int all_fit(size_t an, struct step by)
+{
+    const uint8_t *at = args, *t = named + (named[1] == 'a' ? 4 : named[1] == 'u' ? 6 : 0);
+    int all = 1, abstract;
+    while (at < args + an) {
+        all &= lands(&at, t, by);
+        if (named[1] == 'u') t = past_type(t, &abstract);
+    }
+    return all;
+}
+
+enum outcome { AGAINST, BUILT, REFUSED, UNFIT, MISCOUNTED, OUTSIDE, OUTCOMES };
+
+static enum outcome tried(int stage, size_t tn, size_t an)
+{
+    int abstract = 0;
+    if (target[0] == 'T' && (target[1] == 'r' || (past_type(target, &abstract), abstract))) return OUTSIDE;
+    const uint8_t *at = args;
+    size_t n = 0, count = 0;
+    for (typeless = 0; at < args + an; count++) n += type_of(&at, types + n);
+    if (typeless || at != args + an) return AGAINST;
+    memcpy(target_was, target, tn), memcpy(args_was, args, an);
+    struct answer t = vireo_type_ctor(target, tn, types, n, named, MOST);
+    struct answer b = vireo_call_ctor((uint8_t)stage, target, tn, args, an, built, MOST);
+    if (memcmp(target_was, target, tn) || memcmp(args_was, args, an)) return AGAINST;
+    if (t.refusal) return b.refusal ? REFUSED : AGAINST;
+
+    /* "the constructor makes it for a scalar target, for one vector into a vector type and for one matrix into a matrix type" */
+    struct step by = {target[0] == 'T' && (target[1] == 's' || (count == 1 && args[1] == target[1] && (target[1] == 'v' || target[1] == 'm'))), stage};
+    if (!all_fit(an, by)) {
+        int to = target[target[1] == 's' ? 2 : target[1] == 'v' ? 5 : 6];
+        uint64_t wanted = by.made ? (to == 3 || to == 4 ? 15 : 21) : target[0] == 'Q' || target[1] == 'm' ? 10 : 9;
+        return b.refusal == wanted ? UNFIT : AGAINST;
+    }
+    if (target[0] == 'T' && target[1] == 'a' && count && count != u16(target + 2))
+        return b.refusal == 8 && b.wanted == u16(target + 2) && b.given == count ? MISCOUNTED : AGAINST;
+    if (b.refusal) return AGAINST;
+    at = built;
+    size_t len = type_of(&at, again);
+    return !typeless && at == built + b.value && len == t.value && !memcmp(again, named, len) ? BUILT : AGAINST;
+}
+
+int main(void)
+{
+    static char text[4 * MOST], t[2 * MOST], a[2 * MOST];
+    uint64_t met[OUTCOMES] = {0}, lines = 0;
+    while (fgets(text, sizeof text, stdin)) {
+        if (sscanf(text, "%*15s call_ctor %*3s %2097151s %2097151s", t, a) != 2) continue;
+        size_t tn = unhex(t, target), an = unhex(a, args);
+        lines++;
+        for (int stage = 0; stage < 3; stage++) {
+            enum outcome o = tried(stage, tn, an);
+            if (met[o]++ < 5 && o == AGAINST) fprintf(stderr, "against the third demand at stage %d: %.200s\n", stage, text);
+        }
+    }
+    printf("the third demand on %" PRIu64 " calls at three stages: %" PRIu64 " built with the type named, %" PRIu64 " refused by typing and by building, %" PRIu64
+           " with a literal that does not fit, %" PRIu64 " with another count than the array's, %" PRIu64 " outside it, %" PRIu64 " against it\n",
+           lines, met[BUILT], met[REFUSED], met[UNFIT], met[MISCOUNTED], met[OUTSIDE], met[AGAINST]);
+    return met[AGAINST] != 0 || !met[BUILT];
+}
