@@ -6,8 +6,7 @@
 #include <string.h>
 #include <time.h>
 
-struct answer { uint64_t refusal, value, wanted, given; };
-struct answer vireo_convert_to(const uint8_t *target, size_t target_len, const uint8_t *args, size_t args_len, uint8_t *out, size_t out_len);
+#include "../bindings/c/vireodesk.h"
 
 enum { RUNS = 31, MOST = 1 << 20 };
 static uint8_t args[MOST], out[MOST], other[MOST];
@@ -72,7 +71,7 @@ static double measure(int n, int vectors)
     tn += 3;
     for (int r = -3; r < RUNS; r++) {
         double a = now();
-        struct answer x = vireo_convert_to(target, tn, args, an, out, sizeof out);
+        struct vireo_answer x = vireo_convert_to(target, tn, args, an, out, sizeof out);
         double b = now();
         size_t m = plain(n, vectors);
         double c = now();

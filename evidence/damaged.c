@@ -9,31 +9,31 @@ static void told(const char *what, int same, uint64_t refusal, uint64_t expected
 }
 static void expect(const char *what, size_t tn, size_t an, uint64_t refusal)
 {
-    struct answer r = call(CONVERT_TO, 0, tn, an, ROOM);
+    struct vireo_answer r = call(CONVERT_TO, 0, tn, an, ROOM);
     told(what, r.refusal == refusal && untouched(ROOM, r.refusal ? 0 : r.value), r.refusal, refusal);
 }
 static void expect_rank(const char *what, size_t tn, size_t an, uint64_t refusal)
 {
-    struct answer r = vireo_conversion_rank(target, tn, args, an);
+    struct vireo_answer r = vireo_conversion_rank(target, tn, args, an);
     told(what, r.refusal == refusal, r.refusal, refusal);
 }
 /* a build: the refusal, or a record of that length */
 static void expect_build(const char *what, int stage, size_t tn, size_t an, size_t room, uint64_t refusal, uint64_t length)
 {
-    struct answer r = call(CALL_CTOR, stage, tn, an, room);
+    struct vireo_answer r = call(CALL_CTOR, stage, tn, an, room);
     told(what, r.refusal == refusal && r.value == length && untouched(room, length), r.refusal, refusal);
 }
 
 /* a typing: the whole answer, and where it is accepted the record */
-static void expect_type(const char *what, size_t tn, size_t an, size_t room, struct answer e, const void *record)
+static void expect_type(const char *what, size_t tn, size_t an, size_t room, struct vireo_answer e, const void *record)
 {
-    struct answer r = call(TYPE_CTOR, 0, tn, an, room);
+    struct vireo_answer r = call(TYPE_CTOR, 0, tn, an, room);
     int same = r.refusal == e.refusal && r.value == e.value && r.wanted == e.wanted && r.given == e.given && untouched(room, e.value);
     told(what, same && (e.refusal || !memcmp(space + GUARD, record, e.value)), r.refusal, e.refusal);
 }
 static void expect_no_type(const char *what, size_t tn, size_t an, uint64_t refusal)
 {
-    expect_type(what, tn, an, ROOM, (struct answer){refusal, 0, 0, 0}, 0);
+    expect_type(what, tn, an, ROOM, (struct vireo_answer){refusal, 0, 0, 0}, 0);
 }
 
 /* n structs of one member around f32, as a type and as a value */
@@ -192,19 +192,19 @@ static void typings(void)
     static uint8_t record[4096];
     /* a vector's total is a whole number: 256 and 260 components are too many, also where a byte of the total would say 0 or 4; given is the number of arguments */
     memcpy(target, "Tv\4Ts\5", 6);
-    an = repeat(args, 1, "Tv\4Ts\5", 6); expect_type("one vec4", 6, an, ROOM, (struct answer){0, 6, 0, 0}, "Tv\4Ts\5");
-    an = repeat(args, 64, "Tv\4Ts\5", 6); expect_type("64 vec4", 6, an, ROOM, (struct answer){8, 0, 4, 64}, 0);
-    an = repeat(args, 65, "Tv\4Ts\5", 6); expect_type("65 vec4", 6, an, ROOM, (struct answer){8, 0, 4, 65}, 0);
-    memcpy(target, "Qv\4", 3); expect_type("Qv of 65 vec4", 3, an, ROOM, (struct answer){8, 0, 4, 65}, 0);
-    an = repeat(args, 260, "Ts\1", 3); expect_type("Qv of 260 scalars", 3, an, ROOM, (struct answer){8, 0, 4, 260}, 0);
-    memcpy(target, "Tv\4Ts\5", 6); expect_type("260 scalars", 6, an, ROOM, (struct answer){8, 0, 4, 260}, 0);
-    an = repeat(args, 65535, "Tv\4Ts\5", 6); expect_type("65,535 vec4", 6, an, ROOM, (struct answer){8, 0, 4, 65535}, 0);
+    an = repeat(args, 1, "Tv\4Ts\5", 6); expect_type("one vec4", 6, an, ROOM, (struct vireo_answer){0, 6, 0, 0}, "Tv\4Ts\5");
+    an = repeat(args, 64, "Tv\4Ts\5", 6); expect_type("64 vec4", 6, an, ROOM, (struct vireo_answer){8, 0, 4, 64}, 0);
+    an = repeat(args, 65, "Tv\4Ts\5", 6); expect_type("65 vec4", 6, an, ROOM, (struct vireo_answer){8, 0, 4, 65}, 0);
+    memcpy(target, "Qv\4", 3); expect_type("Qv of 65 vec4", 3, an, ROOM, (struct vireo_answer){8, 0, 4, 65}, 0);
+    an = repeat(args, 260, "Ts\1", 3); expect_type("Qv of 260 scalars", 3, an, ROOM, (struct vireo_answer){8, 0, 4, 260}, 0);
+    memcpy(target, "Tv\4Ts\5", 6); expect_type("260 scalars", 6, an, ROOM, (struct vireo_answer){8, 0, 4, 260}, 0);
+    an = repeat(args, 65535, "Tv\4Ts\5", 6); expect_type("65,535 vec4", 6, an, ROOM, (struct vireo_answer){8, 0, 4, 65535}, 0);
     /* exactly long enough, and a byte too short; a refusal comes before the length */
     an = repeat(args, 4, "Ts\1", 3);
-    expect_type("exactly long enough", 6, an, 6, (struct answer){0, 6, 0, 0}, "Tv\4Ts\5");
-    expect_type("a byte too short", 6, an, 5, (struct answer){22, 0, 0, 0}, 0);
-    expect_type("an empty buffer", 6, 0, 0, (struct answer){22, 0, 0, 0}, 0);
-    an = repeat(args, 3, "Ts\1", 3); expect_type("8 before 22", 6, an, 0, (struct answer){8, 0, 4, 3}, 0);
+    expect_type("exactly long enough", 6, an, 6, (struct vireo_answer){0, 6, 0, 0}, "Tv\4Ts\5");
+    expect_type("a byte too short", 6, an, 5, (struct vireo_answer){22, 0, 0, 0}, 0);
+    expect_type("an empty buffer", 6, 0, 0, (struct vireo_answer){22, 0, 0, 0}, 0);
+    an = repeat(args, 3, "Ts\1", 3); expect_type("8 before 22", 6, an, 0, (struct vireo_answer){8, 0, 4, 3}, 0);
     /* what is refused whatever the arguments */
     an = repeat(args, 1, "Ts\5", 3);
     memcpy(target, "TrTs\5", 5); expect_no_type("Tr of none", 5, 0, 16); expect_no_type("Tr", 5, an, 16);
@@ -214,16 +214,16 @@ static void typings(void)
     memcpy(target, "Ts\2", 3); expect_no_type("another scalar of none", 3, 0, 4);
     memcpy(target, "Qa", 2); expect_no_type("Qa of none", 2, 0, 10);
     memcpy(target, "Qm\2\2", 4); expect_no_type("Qm of none", 4, 0, 11);
-    memcpy(target, "Qv\2", 3); expect_type("Qv of none", 3, 0, ROOM, (struct answer){0, 6, 0, 0}, "Tv\2Ts\1");
+    memcpy(target, "Qv\2", 3); expect_type("Qv of none", 3, 0, ROOM, (struct vireo_answer){0, 6, 0, 0}, "Tv\2Ts\1");
     /* a counted array's arguments are not counted */
     memcpy(target, "Ta\3\0Ts\3", 7);
-    an = repeat(args, 2, "Ts\3", 3); expect_type("two for three", 7, an, ROOM, (struct answer){0, 7, 0, 0}, target);
-    an = repeat(args, 65535, "Ts\1", 3); expect_type("65,535 for three", 7, an, ROOM, (struct answer){0, 7, 0, 0}, target);
+    an = repeat(args, 2, "Ts\3", 3); expect_type("two for three", 7, an, ROOM, (struct vireo_answer){0, 7, 0, 0}, target);
+    an = repeat(args, 65535, "Ts\1", 3); expect_type("65,535 for three", 7, an, ROOM, (struct vireo_answer){0, 7, 0, 0}, target);
     an = repeat(args, 2, "Ts\5", 3); expect_no_type("an element that does not convert", 7, an, 7);
     /* only building asks for a stage */
     memcpy(target, "Ts\5", 3);
     expect_build("building at stage 3", 3, 3, 0, ROOM, 3, 0);
-    expect_type("typing of the same", 3, 0, ROOM, (struct answer){0, 3, 0, 0}, "Ts\5");
+    expect_type("typing of the same", 3, 0, ROOM, (struct vireo_answer){0, 3, 0, 0}, "Ts\5");
     an = repeat(args, 1, "Tv\2Ts\5", 6); expect_no_type("a scalar of a vector", 3, an, 5);
     /* 1, then 2, then the rest; values and Tr are no argument types */
     memcpy(args, "VsVs", 4); expect_no_type("a bad target before a bad argument", 1, 1, 1);
@@ -232,19 +232,19 @@ static void typings(void)
     memcpy(target, "TrTs\5", 5); expect_no_type("a bad argument before 16", 5, an, 2);
     /* the limits on arguments, stricter for Qa */
     memcpy(target, "Qa", 2);
-    an = repeat(args, 65535, "Ts\5", 3); expect_type("Qa of 65,535", 2, an, ROOM, (struct answer){0, 7, 0, 0}, "Ta\377\377Ts\5");
+    an = repeat(args, 65535, "Ts\5", 3); expect_type("Qa of 65,535", 2, an, ROOM, (struct vireo_answer){0, 7, 0, 0}, "Ta\377\377Ts\5");
     an = repeat(args, 65536, "Ts\5", 3); expect_no_type("Qa of 65,536", 2, an, 2);
     memcpy(record, "Ta\1\0", 4);
-    an = nest_type(args, 14), nest_type(record + 4, 14); expect_type("Qa of depth 14", 2, an, ROOM, (struct answer){0, 4 + an, 0, 0}, record);
+    an = nest_type(args, 14), nest_type(record + 4, 14); expect_type("Qa of depth 14", 2, an, ROOM, (struct vireo_answer){0, 4 + an, 0, 0}, record);
     an = nest_type(args, 15); expect_no_type("Qa of depth 15", 2, an, 2);
-    an = long_type(args, 0, 360), long_type(record + 4, 0, 360); expect_type("Qa of 4,092 bytes", 2, an, ROOM, (struct answer){0, 4096, 0, 0}, record);
+    an = long_type(args, 0, 360), long_type(record + 4, 0, 360); expect_type("Qa of 4,092 bytes", 2, an, ROOM, (struct vireo_answer){0, 4096, 0, 0}, record);
     an = long_type(args, 1, 358); expect_no_type("Qa of 4,093 bytes", 2, an, 2);
     memcpy(target, "Tr", 2);
     tn = 2 + long_type(target + 2, 0, 360); expect_no_type("Tr of 4,094 bytes", tn, 0, 16);
     tn = 2 + long_type(target + 2, 1, 358); expect_no_type("Tr of 4,095 bytes", tn, 0, 1);
     /* every truncation */
     tn = nest_type(target, 15), an = nest_type(args, 14);
-    expect_type("a member of depth 14", tn, an, ROOM, (struct answer){0, tn, 0, 0}, target);
+    expect_type("a member of depth 14", tn, an, ROOM, (struct vireo_answer){0, tn, 0, 0}, target);
     for (size_t cut = 1; cut < an; cut++) expect_no_type("cut argument", tn, cut, 2);
     for (size_t cut = 0; cut < tn; cut++) expect_no_type("cut target", cut, an, 1);
 }

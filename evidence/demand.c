@@ -102,8 +102,8 @@ static enum outcome tried(int stage, size_t tn, size_t an)
     for (typeless = 0; at < args + an; count++) n += type_of(&at, types + n);
     if (typeless || at != args + an) return AGAINST;
     memcpy(target_was, target, tn), memcpy(args_was, args, an);
-    struct answer t = vireo_type_ctor(target, tn, types, n, named, MOST);
-    struct answer b = vireo_call_ctor((uint8_t)stage, target, tn, args, an, built, MOST);
+    struct vireo_answer t = vireo_type_ctor(target, tn, types, n, named, MOST);
+    struct vireo_answer b = vireo_call_ctor((uint8_t)stage, target, tn, args, an, built, MOST);
     if (memcmp(target_was, target, tn) || memcmp(args_was, args, an)) return AGAINST;
     if (t.refusal) return b.refusal ? REFUSED : AGAINST;
 

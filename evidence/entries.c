@@ -41,7 +41,7 @@ static uint64_t types_given(size_t an)
     return n;
 }
 
-static int agrees(enum entry entry, const struct line *l, size_t an, struct answer r)
+static int agrees(enum entry entry, const struct line *l, size_t an, struct vireo_answer r)
 {
     if (!strcmp(l->class, "nan-fits")) return r.refusal == nan_refusal(entry);
     if (!strcmp(l->class, "rows")) return r.refusal == 14;
@@ -53,7 +53,7 @@ static int agrees(enum entry entry, const struct line *l, size_t an, struct answ
 
 static int replayed(enum entry entry, int stage, const struct line *l, size_t tn, size_t an)
 {
-    struct answer r = call(entry, stage, tn, an, ROOM);
+    struct vireo_answer r = call(entry, stage, tn, an, ROOM);
     if (!agrees(entry, l, an, r) || !untouched(ROOM, r.refusal ? 0 : r.value)) return 0;
     if (r.refusal) return 1;
     uint64_t n = r.value;
@@ -74,7 +74,7 @@ int main(void)
         size_t tn = unhex(t, target), an = unhex(a, args);
         int same = 1;
         if (!strcmp(entry, "conversion_rank")) {
-            struct answer r = vireo_conversion_rank(target, tn, args, an);
+            struct vireo_answer r = vireo_conversion_rank(target, tn, args, an);
             same = !strcmp(l.told, "rank") ? !r.refusal && r.value == strtoull(l.value, 0, 10) : r.refusal == strtoull(l.value, 0, 10);
             ranks++;
         } else if (!strcmp(entry, "convert_to")) {

@@ -6,11 +6,7 @@
 #include <stdlib.h>
 #include <string.h>
 
-struct answer { uint64_t refusal, value, wanted, given; };
-struct answer vireo_conversion_rank(const uint8_t *target, size_t target_len, const uint8_t *args, size_t args_len);
-struct answer vireo_convert_to(const uint8_t *target, size_t target_len, const uint8_t *args, size_t args_len, uint8_t *out, size_t out_len);
-struct answer vireo_call_ctor(uint8_t stage, const uint8_t *target, size_t target_len, const uint8_t *args, size_t args_len, uint8_t *out, size_t out_len);
-struct answer vireo_type_ctor(const uint8_t *target, size_t target_len, const uint8_t *args, size_t args_len, uint8_t *out, size_t out_len);
+#include "../bindings/c/vireodesk.h"
 
 enum { MOST = 1 << 20, GUARD = 64, FILL = 0xa5, ROOM = 65536 };
 static uint8_t target[MOST], args[MOST], space[MOST + 2 * GUARD];
@@ -25,7 +21,7 @@ static inline int untouched(size_t room, size_t used)
 
 /* an entry that writes a record, into a buffer of that length between two guards */
 enum entry { CONVERT_TO, CALL_CTOR, TYPE_CTOR };
-static inline struct answer call(enum entry entry, int stage, size_t tn, size_t an, size_t room)
+static inline struct vireo_answer call(enum entry entry, int stage, size_t tn, size_t an, size_t room)
 {
     memset(space, FILL, room + 2 * GUARD);
     if (entry == CONVERT_TO) return vireo_convert_to(target, tn, args, an, space + GUARD, room);
