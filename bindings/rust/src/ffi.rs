@@ -1,0 +1,69 @@
+//! The four C entries (bindings/c/vireodesk.h). All unsafe code of the crate is here.
+//!
+//! What C asks of its caller is that each pointer is to as many bytes as its length says (not null where that is 0), and that the lent buffer
+//! overlaps neither target nor arguments. The functions of this module take slices, which give the first; a mutable borrow beside shared ones
+//! gives the second. The library asks nothing of the bytes, keeps no pointer and has no state, so no call can disturb a later one or one of
+//! another thread.
+#![allow(unsafe_code)]
+
+/// `struct vireo_answer`: `refusal` is 0 where the call was accepted, and then `value` is the record's length or the rank.
+#[repr(C)]
+pub(crate) struct Answer {
+    pub(crate) refusal: u64,
+    pub(crate) value: u64,
+    pub(crate) wanted: u64,
+    pub(crate) given: u64,
+}
+
+// As the header has them: usize stands for size_t, and `Answer` has the header's fields in its order.
+extern "C" {
+    fn vireo_call_ctor(
+        stage: u8,
+        target: *const u8,
+        target_len: usize,
+        args: *const u8,
+        args_len: usize,
+        out: *mut u8,
+        out_len: usize,
+    ) -> Answer;
+    fn vireo_type_ctor(
+        target: *const u8,
+        target_len: usize,
+        args: *const u8,
+        args_len: usize,
+        out: *mut u8,
+        out_len: usize,
+    ) -> Answer;
+    fn vireo_convert_to(
+        target: *const u8,
+        target_len: usize,
+        args: *const u8,
+        args_len: usize,
+        out: *mut u8,
+        out_len: usize,
+    ) -> Answer;
+    fn vireo_conversion_rank(target: *const u8, target_len: usize, args: *const u8, args_len: usize) -> Answer;
+}
+
+pub(crate) fn call_ctor(stage: u8, target: &[u8], args: &[u8], out: &mut [u8]) -> Answer {
+    // SAFETY: three slices, each its pointer and its length, none of them null; `out` is borrowed mutably, so it overlaps neither of the others.
+    // Any stage byte will do. The library writes only `out` and keeps nothing past the call.
+    unsafe {
+        vireo_call_ctor(stage, target.as_ptr(), target.len(), args.as_ptr(), args.len(), out.as_mut_ptr(), out.len())
+    }
+}
+
+pub(crate) fn type_ctor(target: &[u8], args: &[u8], out: &mut [u8]) -> Answer {
+    // SAFETY: as in `call_ctor`: pointers and lengths of slices, `out` apart from the others, nothing kept.
+    unsafe { vireo_type_ctor(target.as_ptr(), target.len(), args.as_ptr(), args.len(), out.as_mut_ptr(), out.len()) }
+}
+
+pub(crate) fn convert_to(target: &[u8], args: &[u8], out: &mut [u8]) -> Answer {
+    // SAFETY: as in `call_ctor`: pointers and lengths of slices, `out` apart from the others, nothing kept.
+    unsafe { vireo_convert_to(target.as_ptr(), target.len(), args.as_ptr(), args.len(), out.as_mut_ptr(), out.len()) }
+}
+
+pub(crate) fn conversion_rank(target: &[u8], args: &[u8]) -> Answer {
+    // SAFETY: two slices, each its pointer and its length; both are only read, and nothing is kept.
+    unsafe { vireo_conversion_rank(target.as_ptr(), target.len(), args.as_ptr(), args.len()) }
+}

@@ -1,0 +1,33 @@
+#![doc = include_str!("../README.md")]
+#![deny(missing_docs, unsafe_code)]
+
+mod bytes;
+mod ffi;
+mod literal;
+mod owned;
+mod record;
+mod refusal;
+mod target;
+mod ty;
+mod value;
+
+pub use bytes::{call_ctor_bytes, conversion_rank_bytes, convert_to_bytes, type_ctor_bytes};
+pub use literal::{Kind, Literal};
+pub use owned::{call_ctor, conversion_rank, convert_to, type_ctor, LONGEST};
+pub use record::Malformed;
+pub use refusal::Refusal;
+pub use target::Target;
+pub use ty::Type;
+pub use value::Value;
+
+/// When the expression is folded. It decides whether a float out of range is refused (21, at Const) or becomes infinity.
+#[derive(Clone, Copy, Debug, PartialEq, Eq, Hash)]
+#[repr(u8)]
+pub enum Stage {
+    /// In a constant expression.
+    Const = 0,
+    /// When the pipeline is made.
+    Override = 1,
+    /// While the shader runs.
+    Exec = 2,
+}
