@@ -36,44 +36,6 @@ static void expect_no_type(const char *what, size_t tn, size_t an, uint64_t refu
     expect_type(what, tn, an, ROOM, (struct vireo_answer){refusal, 0, 0, 0}, 0);
 }
 
-/* n structs of one member around f32, as a type and as a value */
-static size_t nest_type(uint8_t *to, int n)
-{
-    size_t at = 0;
-    for (int i = 0; i < n; i++) { memcpy(to + at, "Tu\0\0\1\0", 6); at += 6; }
-    memcpy(to + at, "Ts\5", 3);
-    return at + 3;
-}
-static size_t nest_value(uint8_t *to, int n)
-{
-    size_t at = 0;
-    for (int i = 0; i < n; i++) { memcpy(to + at, "Vu\0\0\1\0", 6); at += 6; }
-    memcpy(to + at, "Vs\5\0\0\200\77\0\0\0\0", 11);
-    return at + 11;
-}
-/* a struct of scalars whose type record has just n bytes: 6 + 3 a member */
-static size_t wide_type(uint8_t *to, int members)
-{
-    memcpy(to, "Tu\0\0", 4);
-    to[4] = (uint8_t)(members % 256);
-    to[5] = (uint8_t)(members / 256);
-    for (int i = 0; i < members; i++) memcpy(to + 6 + 3 * i, "Ts\5", 3);
-    return (size_t)(6 + 3 * members);
-}
-
-/* a struct of a struct of 1,000 scalars, some matrices (7 bytes each) and some scalars: 3,012 + 7 m + 3 n bytes */
-static size_t long_type(uint8_t *to, int matrices, int scalars)
-{
-    int members = 1 + matrices + scalars;
-    memcpy(to, "Tu\0\0", 4);
-    to[4] = (uint8_t)(members % 256);
-    to[5] = (uint8_t)(members / 256);
-    size_t at = 6 + wide_type(to + 6, 1000);
-    for (int i = 0; i < matrices; i++) { memcpy(to + at, "Tm\2\2Ts\5", 7); at += 7; }
-    for (int i = 0; i < scalars; i++) { memcpy(to + at, "Ts\5", 3); at += 3; }
-    return at;
-}
-
 static void damaged(void)
 {
     size_t tn, an;
@@ -120,21 +82,6 @@ static void damaged(void)
     memcpy(target, "TrTs\5", 5); memcpy(args, "Ts\5", 3); expect_rank("rank to a runtime-sized array", 5, 3, 9);
 }
 
-/* n literals of the kind k, one after another */
-static size_t literals(uint8_t *to, size_t n, int k)
-{
-    for (size_t i = 0; i < n; i++) { memset(to + 11 * i, 0, 11); memcpy(to + 11 * i, "Vs", 2); to[11 * i + 2] = (uint8_t)k; }
-    return 11 * n;
-}
-
-/* arrays of 65,535 in one another, n of them around f32 */
-static size_t arrays(uint8_t *to, int n)
-{
-    for (int i = 0; i < n; i++) memcpy(to + 4 * i, "Ta\377\377", 4);
-    memcpy(to + 4 * n, "Ts\5", 3);
-    return (size_t)(4 * n + 3);
-}
-
 static void builds(void)
 {
     size_t tn, an, most = MOST;
@@ -177,13 +124,6 @@ static void builds(void)
     memcpy(target, "Ts\5", 3);
     expect_build("an empty buffer", 0, 3, 0, 0, 22, 0);
     expect_build("no arguments", 0, 3, 0, ROOM, 0, 11);
-}
-
-/* n times the same record, one after another */
-static size_t repeat(uint8_t *to, size_t n, const char *record, size_t len)
-{
-    for (size_t i = 0; i < n; i++) memcpy(to + len * i, record, len);
-    return len * n;
 }
 
 static void typings(void)

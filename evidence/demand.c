@@ -1,37 +1,15 @@
 /* The third demand of document 00 on the answers of the two entries, from standard input: the `call_ctor` lines of the lists, each at all three stages.
  *
- * Typing gets the types of the arguments, worked out here from their records, and building the arguments; the target is the same. Whether every literal fits is
- * worked out here too, from the words of document 01 and with the machine's own floats, so that "exactly when" is tried in both directions. The lists' own answers
+ * Typing gets the types of the arguments, worked out from their records by reader.h, and building the arguments; the target is the same. Whether every literal fits is
+ * worked out here, from the words of document 01 and with the machine's own floats, so that "exactly when" is tried in both directions. The lists' own answers
  * are not used. Exits 1 where anything is against the demand, or where no value was built.
  */
 #include <float.h>
 #include <math.h>
 #include "records.h"
+#include "reader.h"
 
-static uint8_t types[MOST], named[MOST], built[MOST], again[MOST], target_was[MOST], args_was[MOST];
-
-/* a value record's type at `to`, and its length; the value is passed over. A record whose parts have not the type they must have has no type */
-static int typeless;
-static size_t type_of(const uint8_t **value, uint8_t *to)
-{
-    const uint8_t *v = *value, shape = v[1];
-    size_t head = shape == 's' || shape == 'v' ? 3 : shape == 'u' ? 6 : 4, n = head, first = 0;
-    size_t parts = shape == 's' ? 0 : shape == 'u' ? u16(v + 4) : shape == 'a' ? u16(v + 2) : v[2];
-    if (v[0] != 'V') { typeless = 1; return 0; }
-    memcpy(to, v, head);
-    to[0] = 'T';
-    *value += shape == 's' ? 11 : head;
-    for (size_t i = 0; i < parts && !typeless; i++) {
-        size_t part = type_of(value, to + n);
-        if (shape == 'u' || i == 0) n += first = part;
-        else if (part != first || memcmp(to + n - first, to + n, part)) typeless = 1;
-    }
-    if (shape != 'm') return n;
-    /* a matrix type names the scalar of its columns */
-    if (n != 10 || to[5] != 'v' || to[6] != v[3]) typeless = 1;
-    memmove(to + 4, to + 7, 3);
-    return 7;
-}
+static uint8_t types[MOST + TYPE_ROOM], named[MOST], built[MOST], again[MOST], target_was[MOST], args_was[MOST];
 
 /* the number of a literal of kind 1 to 5; one of 64 bits is rounded, which moves it across none of the bounds below */
 static double number(const uint8_t *v)
@@ -97,10 +75,9 @@ static enum outcome tried(int stage, size_t tn, size_t an)
 {
     int abstract = 0;
     if (target[0] == 'T' && (target[1] == 'r' || (past_type(target, &abstract), abstract))) return OUTSIDE;
-    const uint8_t *at = args;
-    size_t n = 0, count = 0;
-    for (typeless = 0; at < args + an; count++) n += type_of(&at, types + n);
-    if (typeless || at != args + an) return AGAINST;
+    size_t n = 0, count = 0, type;
+    for (size_t at = 0, len; at < an; at += len, n += type, count++)
+        if (!(len = value_front(args + at, an - at, DEPTH_MOST, types + n, &type))) return AGAINST;
     memcpy(target_was, target, tn), memcpy(args_was, args, an);
     struct vireo_answer t = vireo_type_ctor(target, tn, types, n, named, MOST);
     struct vireo_answer b = vireo_call_ctor((uint8_t)stage, target, tn, args, an, built, MOST);
@@ -117,9 +94,7 @@ static enum outcome tried(int stage, size_t tn, size_t an)
     if (target[0] == 'T' && target[1] == 'a' && count && count != u16(target + 2))
         return b.refusal == 8 && b.wanted == u16(target + 2) && b.given == count ? MISCOUNTED : AGAINST;
     if (b.refusal) return AGAINST;
-    at = built;
-    size_t len = type_of(&at, again);
-    return !typeless && at == built + b.value && len == t.value && !memcmp(again, named, len) ? BUILT : AGAINST;
+    return value_front(built, b.value, DEPTH_MOST, again, &type) == b.value && type == t.value && !memcmp(again, named, type) ? BUILT : AGAINST;
 }
 
 int main(void)

@@ -10,7 +10,8 @@
 #include <stdio.h>
 #include <stdlib.h>
 #include <string.h>
-#include <time.h>
+
+#include "draw.h"
 
 enum { BOOL, ABSTRACT_INT, ABSTRACT_FLOAT, I32, U32, F32, F16 };
 enum { CONST, OVERRIDE, EXEC };
@@ -59,7 +60,6 @@ static void report(struct tally *t, int n, double seconds)
     }
     printf("%.1f s\n", seconds);
 }
-static double now(void) { struct timespec t; clock_gettime(CLOCK_MONOTONIC, &t); return t.tv_sec + t.tv_nsec * 1e-9; }
 
 /* Toward zero by the hardware instruction where the result is in range, the ends of document 01 where it is not; f32 and f16 are exact in f64. */
 static uint64_t to_i32(double d, int32_t lo, int32_t hi)
@@ -95,15 +95,6 @@ static void exhaustive(void)
     }
     fprintf(stderr, "\n");
     report(t, 6, now() - start);
-}
-
-static uint64_t state;
-static uint64_t draw(void)
-{
-    uint64_t z = (state += 0x9e3779b97f4a7c15);
-    z = (z ^ (z >> 30)) * 0xbf58476d1ce4e5b9;
-    z = (z ^ (z >> 27)) * 0x94d049bb133111eb;
-    return z ^ (z >> 31);
 }
 
 /* doubles: any pattern; near the f32 and f16 ranges, with the digits that a rounding drops all zero, all one, or a tie and its neighbours */

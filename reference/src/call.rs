@@ -7,6 +7,7 @@ use crate::{
     Error, Instance, ShaderStage, Type,
     builtin::{call_ctor, ctor},
     conv::{Convert, conversion_rank},
+    hex::to_hex,
     inst::LiteralInstance,
     records::{Target, read_target, read_types, read_values, write_target, write_type, write_value},
     refusals::{Refusal, refusal},
@@ -71,6 +72,17 @@ impl Call {
     pub fn rank(target: &Type, arg: &Type) -> Call {
         let args = type_records(std::slice::from_ref(arg));
         Call::new(Entry::ConversionRank, 0, &Target::Type(target.clone()), args)
+    }
+}
+
+/// ENTRY STAGE TARGET ARGS, as in the lines of `answers`.
+impl std::fmt::Display for Call {
+    fn fmt(&self, f: &mut std::fmt::Formatter) -> std::fmt::Result {
+        let stage = match self.entry {
+            Entry::CallCtor => self.stage.to_string(),
+            _ => "-".to_string(),
+        };
+        write!(f, "{} {stage} {} {}", self.entry.name(), to_hex(&self.target), to_hex(&self.args))
     }
 }
 
@@ -279,7 +291,7 @@ pub fn answer(call: &Decoded) -> Answer {
 impl std::fmt::Display for Answer {
     fn fmt(&self, f: &mut std::fmt::Formatter) -> std::fmt::Result {
         match self {
-            Answer::Ok(bytes) => write!(f, "ok {}", crate::hex::to_hex(bytes)),
+            Answer::Ok(bytes) => write!(f, "ok {}", to_hex(bytes)),
             Answer::Rank(rank) => write!(f, "rank {rank}"),
             Answer::Panic => write!(f, "panic"),
             Answer::No(Refusal { number: None, .. }) => write!(f, "no ?"),

@@ -1,9 +1,12 @@
 //! The entries over byte records. Nothing is asked of the bytes, and nothing is allocated.
+//!
+//! They and what they call are inline, so that a caller in another crate pays for the C entry alone.
 
 use crate::{ffi, refusal::judged, Refusal};
 
 /// Building: what the target's constructor makes of the value records in `args`, at stage 0, 1 or 2. Gives the length of the value record at the
 /// front of `out`; the bytes past it stay as they were, and a refusal leaves all of `out` as it was.
+#[inline]
 pub fn call_ctor_bytes(stage: u8, target: &[u8], args: &[u8], out: &mut [u8]) -> Result<usize, Refusal> {
     // A record's length is at most that of `out`, so it fits.
     judged(ffi::call_ctor(stage, target, args, out)).map(|length| length as usize)
@@ -12,17 +15,20 @@ pub fn call_ctor_bytes(stage: u8, target: &[u8], args: &[u8], out: &mut [u8]) ->
 /// Typing: the type of what the target's constructor makes, from the type records in `args`. Gives the length of the type record at the front of
 /// `out`, which is otherwise left alone as in [`call_ctor_bytes`]. 4,096 bytes are always enough: no type
 /// record is longer.
+#[inline]
 pub fn type_ctor_bytes(target: &[u8], args: &[u8], out: &mut [u8]) -> Result<usize, Refusal> {
     judged(ffi::type_ctor(target, args, out)).map(|length| length as usize)
 }
 
 /// Conversion without a constructor: the one value record in `args` as the target's type. Gives the length of the value record at the front of
 /// `out`, which is otherwise left alone as in [`call_ctor_bytes`].
+#[inline]
 pub fn convert_to_bytes(target: &[u8], args: &[u8], out: &mut [u8]) -> Result<usize, Refusal> {
     judged(ffi::convert_to(target, args, out)).map(|length| length as usize)
 }
 
 /// The rank of that conversion, for the one type record in `args`.
+#[inline]
 pub fn conversion_rank_bytes(target: &[u8], args: &[u8]) -> Result<u64, Refusal> {
     judged(ffi::conversion_rank(target, args))
 }

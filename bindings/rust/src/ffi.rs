@@ -45,6 +45,7 @@ extern "C" {
     fn vireo_conversion_rank(target: *const u8, target_len: usize, args: *const u8, args_len: usize) -> Answer;
 }
 
+#[inline]
 pub(crate) fn call_ctor(stage: u8, target: &[u8], args: &[u8], out: &mut [u8]) -> Answer {
     // SAFETY: three slices, each its pointer and its length, none of them null; `out` is borrowed mutably, so it overlaps neither of the others.
     // Any stage byte will do. The library writes only `out` and keeps nothing past the call.
@@ -53,16 +54,19 @@ pub(crate) fn call_ctor(stage: u8, target: &[u8], args: &[u8], out: &mut [u8]) -
     }
 }
 
+#[inline]
 pub(crate) fn type_ctor(target: &[u8], args: &[u8], out: &mut [u8]) -> Answer {
     // SAFETY: as in `call_ctor`: pointers and lengths of slices, `out` apart from the others, nothing kept.
     unsafe { vireo_type_ctor(target.as_ptr(), target.len(), args.as_ptr(), args.len(), out.as_mut_ptr(), out.len()) }
 }
 
+#[inline]
 pub(crate) fn convert_to(target: &[u8], args: &[u8], out: &mut [u8]) -> Answer {
     // SAFETY: as in `call_ctor`: pointers and lengths of slices, `out` apart from the others, nothing kept.
     unsafe { vireo_convert_to(target.as_ptr(), target.len(), args.as_ptr(), args.len(), out.as_mut_ptr(), out.len()) }
 }
 
+#[inline]
 pub(crate) fn conversion_rank(target: &[u8], args: &[u8]) -> Answer {
     // SAFETY: two slices, each its pointer and its length; both are only read, and nothing is kept.
     unsafe { vireo_conversion_rank(target.as_ptr(), target.len(), args.as_ptr(), args.len()) }

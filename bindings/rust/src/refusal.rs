@@ -32,6 +32,7 @@ impl Refusal {
 }
 
 /// The answer's value, or its refusal.
+#[inline]
 pub(crate) fn judged(answer: Answer) -> Result<u64, Refusal> {
     match answer {
         Answer { refusal: 0, value, .. } => Ok(value),

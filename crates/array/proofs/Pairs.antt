@@ -15,11 +15,11 @@ use Rattle.meaning.specs.Build.{memberwise}
 use Rattle.laws.proofs.AgreeConv.{conv-not}
 use Rattle.ty.specs.Stands.{Stands, StandAll, Standing}
 use Rattle.ty.proofs.Heads.{first-is}
-use Rattle.conv.specs.Ranked.{Whole, ConvertsIs}
+use Rattle.conv.specs.Ranked.{Whole}
 use Rattle.conv.specs.Values.{ValueTo, HasVal, ValueFits}
-use Rattle.call.specs.Row.{SomeArg, NextIs, TypeIs}
+use Rattle.call.specs.Row.{SomeArg, NextIs}
 use Rattle.call.proofs.Rows.{row-has, some-val}
-use Rattle.conv.proofs.Fronts.{front-whole}
+use Rattle.lists.specs.Lists.{ArgConverts}
 use Rattle.lists.proofs.Places.{cut-whole}
 use Rattle.array.specs.Members.{EndsAt, Pairs, MemberEnds}
 
@@ -63,28 +63,24 @@ module _ {target : List ℕ} {at : ℕ} {args : List ℕ} {i : ℕ} {t : Ty} {m 
   pub pair-more : {e : ℕ} → NextIs args i v l e → i < e
   pair-more n = omega (arith, n .end, some-val v)
 
-  module _ {e n : ℕ} {ty : List ℕ} (y : TypeIs args i v l e n ty) where
-    pub pair-front : Whole (take n ty) (typeOf v)
-    pair-front = front-whole (y .stands)
+  -- whether it converts: the type, then the literals
+  module _ {q : ℕ} (f : EndsAt target at q) {a : Bool} (c : ArgConverts args i (take (q - at) (drop at target)) a) where
+    type-is : a ≡ converts (typeOf v) t
+    type-is = c v l t (x .row) (pair-part f)
 
-    -- whether it converts: the type, then the literals
-    module _ {q : ℕ} (f : EndsAt target at q) {a : Bool} (c : ConvertsIs (take n ty) (take (q - at) (drop at target)) a) where
-      type-is : a ≡ converts (typeOf v) t
-      type-is = c (typeOf v) t pair-front (pair-part f)
+    pub type-no : a ≡ false → convVal t v ≡ none
+    type-no h = conv-not t v (sym type-is ∙ h)
 
-      pub type-no : a ≡ false → convVal t v ≡ none
-      type-no h = conv-not t v (sym type-is ∙ h)
+    module _ (h : a ≡ true) {e : ℕ} (y : NextIs args i v l e) where
+      pub fits-asked : ValueTo 14 target at args i e t v
+      fits-asked = pair-to y (subst T (sym h ∙ type-is) tt)
 
-      module _ (h : a ≡ true) where
-        pub fits-asked : ValueTo 14 target at args i e t v
-        fits-asked = pair-to (y .next) (subst T (sym h ∙ type-is) tt)
+      module _ {b : Bool} (g : ValueFits 14 target at args i e b) where
+        pub fits-no : b ≡ false → convVal t v ≡ none
+        fits-no k = none-of (convVal t v) (sym (g t v fits-asked) ∙ k)
 
-        module _ {b : Bool} (g : ValueFits 14 target at args i e b) where
-          pub fits-no : b ≡ false → convVal t v ≡ none
-          fits-no k = none-of (convVal t v) (sym (g t v fits-asked) ∙ k)
-
-          pub fits-yes : b ≡ true → MemberEnds target args i t m v l e q
-          fits-yes k = record { more = pair-more (y .next); fits = sym (g t v fits-asked) ∙ k; rest = pair-rest f (y .next) }
+        pub fits-yes : b ≡ true → MemberEnds target args i t m v l e q
+        fits-yes k = record { more = pair-more y; fits = sym (g t v fits-asked) ∙ k; rest = pair-rest f y }
 
 -- where arguments are left, there is a member for the first
 pub record FirstPair (target : List ℕ) (at : ℕ) (args : List ℕ) (i : ℕ) (m : Tys) (l : List Val) : Type 0 where

@@ -3,9 +3,7 @@ use call::Written;
 use lists::Common;
 use ty::Len;
 use ty::TypeEnd;
-ghost use mathlib.Core.Path.{_≡_};
 ghost use Prim.Native.Nat.{_≤_, _+_, _*_};
-ghost use lib.ListN.{length};
 ghost use Rattle.ty.specs.Stands.{Standing};
 ghost use Rattle.array.specs.Lengths.{Within};
 ghost use Rattle.array.specs.Arrays.{SomeElements, ElementsTold, SomeArray, ArrayTold, SomeRuntime, RuntimeTold, SomeQa, QaTold};
@@ -123,17 +121,14 @@ fn member_end(target: &[u8], at: usize) -> usize
     }
 }
 
-// Whether the argument at i converts to the member type at `at`: its type, which is written to `ty`, and then each of its literals.
-fn member_fits(target: &[u8], at: usize, args: &[u8], i: usize, ty: &mut [u8]) -> Member
+// Whether the argument at i converts to the member type at `at`: its type, and then each of its literals.
+fn member_fits(target: &[u8], at: usize, args: &[u8], i: usize) -> Member
     requires { ⌜ SomePair (now target) at (now args) i ⌝ }
-    requires { ⌜ length (now ty) ≡ 4096 ⌝ }
     ensures { λ r. ⌜ MemberIs (now (target .entry)) at (now (args .entry)) i r ⌝ }
 {
-    let step = call::next_type(args, i, ty);
-    let e = step.end;
-    let n = step.ty;
+    let e = call::next_arg(args, i);
     let q = member_end(target, at);
-    if !conv::type_converts(&ty[..n], &target[at..q]) {
+    if !lists::arg_converts(args, i, &target[at..q]) {
         return Member::Unfit;
     }
     if !conv::value_fits(args, i, e, target, at, 14) {
@@ -147,11 +142,10 @@ fn members_convert(target: &[u8], args: &[u8]) -> bool
     requires { ⌜ SomePairs (now target) 6 (now args) 0 ⌝ }
     ensures { λ r. ⌜ MembersFit (now (target .entry)) 6 (now (args .entry)) 0 r ⌝ }
 {
-    let mut ty = [0u8; 4096];
     let mut i = 0;
     let mut at = 6;
     while i < args.len() {
-        match member_fits(target, at, args, i, &mut ty) {
+        match member_fits(target, at, args, i) {
             Member::Ends(e, q) => {
                 i = e;
                 at = q;

@@ -1,4 +1,5 @@
--- answers; arguments; literals among them
+-- answers; arguments; literals among them; an argument by its first bytes
 pub mod Answers
 pub mod Rows
 pub mod Literals
+pub mod Firsts

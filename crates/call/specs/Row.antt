@@ -7,6 +7,8 @@ use Rattle.meaning.specs.Trees.{Val, typeOf}
 use Rattle.meaning.specs.Records.{valBytes, joined}
 use Rattle.laws.proofs.Sound.{All}
 use Rattle.ty.specs.Stands.{Stands}
+use Rattle.ty.specs.Heads.{headOf}
+use Rattle.ty.specs.declared.Head.{Head}
 use Rattle.inst.specs.Counts.{ValueArg}
 
 -- from i on, up to the end of the bytes, the records of the values l stand one after another, each well formed
@@ -24,6 +26,10 @@ pub record SomeArg (s : List ℕ) (i : ℕ) : Type 0 where
   pub value : Val
   pub others : List Val
   pub row : Row s i (value ∷ others)
+
+-- r is the front of the first one's type
+abbrev pub HeadOf : List ℕ → ℕ → Head → Type 0
+HeadOf s i r = (v : Val) (l : List Val) → Row s i (v ∷ l) → r ≡ headOf (typeOf v)
 
 -- the first of them ends at e, where the others begin
 pub record NextIs (s : List ℕ) (i : ℕ) (v : Val) (l : List Val) (e : ℕ) : Type 0 where

@@ -1,8 +1,9 @@
 // A call: what is answered, and the arguments, which are values in a row.
 use inst::Derived;
+use ty::Head;
 ghost use mathlib.Core.Path.{_≡_};
 ghost use lib.ListN.{length};
-ghost use Rattle.call.specs.Row.{SomeArg, Skips, Types};
+ghost use Rattle.call.specs.Row.{SomeArg, HeadOf, Skips, Types};
 
 // The answer of an entry that writes a record: the record's length, the number of the refusal, or 8 with the count wanted and the count given.
 pub enum Written {
@@ -17,13 +18,40 @@ pub struct Step {
     pub ty: usize,
 }
 
-// The end of the argument at i; a literal's, which most are, without asking what it is.
+// The front of the type of the argument at i, which its own first bytes say: a vector or a matrix has a first literal, whose kind is the kind of all.
+pub fn head_of(args: &[u8], i: usize) -> Head
+    requires { ⌜ SomeArg (now args) i ⌝ }
+    ensures { λ r. ⌜ HeadOf (now (args .entry)) i r ⌝ }
+{
+    let mark = args[i + 1];
+    if mark == b's' {
+        return Head::Scalar(args[i + 2]);
+    }
+    if mark == b'v' {
+        return Head::Vector(args[i + 2], args[i + 5]);
+    }
+    if mark == b'm' {
+        return Head::Matrix(args[i + 2], args[i + 3], args[i + 9]);
+    }
+    if mark == b'a' {
+        return Head::Array(ty::join(args[i + 2], args[i + 3]));
+    }
+    Head::Struct(
+        ty::join(args[i + 2], args[i + 3]),
+        ty::join(args[i + 4], args[i + 5]),
+    )
+}
+
+// The end of the argument at i; a literal's, which most are, and a vector's without asking what it is.
 pub fn next_arg(args: &[u8], i: usize) -> usize
     requires { ⌜ SomeArg (now args) i ⌝ }
     ensures { λ r. ⌜ Skips (now (args .entry)) i r ⌝ }
 {
     if args[i + 1] == b's' {
         return i + ty::literal_len(args[i + 2]);
+    }
+    if args[i + 1] == b'v' {
+        return i + ty::vector_len(args[i + 2], args[i + 5]);
     }
     inst::value_end(args, i, 15)
 }

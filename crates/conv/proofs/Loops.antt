@@ -25,9 +25,9 @@ some-cons none y = refl
 some-cons (some b) none = refl
 some-cons (some b) (some bs) = refl
 
-fits-cons : (k : Kind) (a : Item) (l : List Item) → some? (convItems k (a ∷ l)) ≡ some? (convItem k a) && some? (convItems k l)
+pub all-cons : {A B : Type 0} (f : A → Option B) (a : A) (l : List A) → some? (allSome f (a ∷ l)) ≡ some? (f a) && some? (allSome f l)
 unfolding allSome
-fits-cons k a l = some-cons (convItem k a) (convItems k l)
+all-cons f a l = some-cons (f a) (allSome f l)
 
 record Into (k : Kind) (a : Item) (l m : List Item) : Type 0 where
   into : Item
@@ -62,7 +62,7 @@ module _ {k : ℕ} {s : List ℕ} {e i : ℕ} {l : List Item} (g : FitLeft k s e
     fit-less z = omega (arith, z (first .item) (first .stands), item-some (first .item))
 
     split : (j : Kind) → k ≡ kindNo j → some? (convItem j (first .item)) && some? (convItems j (first .others)) ≡ some? (convItems j l)
-    split j n = sym (fits-cons j (first .item) (first .others)) ∙ (ap (λ (m : List Item). some? (convItems j m)) (sym (first .is)) ∙ g .same j n)
+    split j n = sym (all-cons (convItem j) (first .item) (first .others)) ∙ (ap (λ (m : List Item). some? (convItems j m)) (sym (first .is)) ∙ g .same j n)
 
     module _ {r : Bool} (f : ItemFits k s i r) where
       pub fit-no : (j : Kind) → k ≡ kindNo j → r ≡ false → false ≡ some? (convItems j l)

@@ -1,17 +1,17 @@
 -- The rank between two types by their records, and what the one argument of `conversion_rank` has to be.
-use mathlib.Core.Path.{_≡_, refl, sym, ap, _∙_, subst}
+use mathlib.Core.Path.{_≡_, refl, sym, ap, ap₂, _∙_, subst}
 use mathlib.Core.Option.{Option, none, some}
 use mathlib.Core.List.{List, [], _∷_, _++_, append-nil}
 use mathlib.Core.Bool.{Bool, true, false, _&&_, cond}
 use Prim.Native.Nat.{ℕ, _+_, _-_, _<_}
 use native.Mathlib.Omega.{arith}
 use lib.Dec.{T, leb, eqb, eqb-refl}
-use lib.ListN.{length, length-append}
+use lib.ListN.{length, getD, length-append}
 use lib.Seq.{take-at}
 use Rattle.meaning.specs.Kinds.{Kind, f32, kindNo, kindRank, isFloat, sameKind}
 use Rattle.meaning.specs.Scalars.{some?}
 use Rattle.meaning.specs.Trees.{Ty, Ts, Tv, Tm, Ta, Tu, Target, Of, Tr, leaf, setLeaf, sameTy}
-use Rattle.meaning.specs.Records.{tyBytes, joined, every, side, u16, shapedTy, goodTy, goodArg, goodTys}
+use Rattle.meaning.specs.Records.{le, tyBytes, joined, every, side, u16, shapedTy, goodTy, goodArg, goodTys}
 use Rattle.meaning.specs.Read.{readTys, readTarget}
 use Rattle.meaning.specs.Answers.{Result, ok, no, orNo, _>>=_, _>>_}
 use Rattle.meaning.specs.Convert.{rank, leafRank, converts}
@@ -19,6 +19,7 @@ use Rattle.meaning.specs.Entries.{only, rankOne, typeTarget, rankAnswer}
 use Rattle.laws.proofs.AgreeCommon.{set-set}
 use Rattle.laws.proofs.AgreeConv.{set-same, none-some, true-of}
 use Rattle.laws.proofs.AgreeLit.{kind-back}
+use Rattle.laws.proofs.AgreeVec.{converts-lit}
 use Rattle.laws.proofs.Back.{and-l, and-r}
 use Rattle.laws.proofs.Exact.{tys-exact}
 use Rattle.laws.proofs.Length.{bytes-same}
@@ -30,10 +31,12 @@ use Rattle.literal.specs.declared.Rank.the-variants.{At, Never}
 use Rattle.ty.specs.Targets.{sameBytes, TypeTarget}
 use Rattle.ty.specs.Heads.{leafOf}
 use Rattle.ty.specs.declared.Leaf.the-variants.{Kind as Bottom, Struct as Blocked}
+use Rattle.ty.proofs.Places.{at-of}
+use Rattle.ty.proofs.Heads.{ScalarIs}
 use Rattle.ty.proofs.Equal.{both-ways, bytes-path, bytes-refl, same-records}
 use Rattle.ty.proofs.Leaves.{leaf-last}
 use Rattle.ty.proofs.Targets.{whole-bytes, whole-good, of-target}
-use Rattle.conv.specs.Ranked.{Whole, front, rankRead}
+use Rattle.conv.specs.Ranked.{Whole, KindConverts, front, rankRead}
 
 -- ---- the kind at the bottom, as `leaf_at` answers it
 
@@ -52,9 +55,46 @@ unfolding leafOf
 struct-is none e = refl
 struct-is (some j) e = absurd (let z : _≡_ {A = ℕ} 0 1 = cc in omega arith)
 
+rank-some : (o : Option ℕ) {n : ℕ} → At n ≡ rankOf o → true ≡ some? o
+unfolding rankOf some?
+rank-some none e = absurd (let z : _≡_ {A = ℕ} 0 1 = cc in omega arith)
+rank-some (some m) e = refl
+
+rank-none : (o : Option ℕ) → Never ≡ rankOf o → false ≡ some? o
+unfolding rankOf some?
+rank-none none e = refl
+rank-none (some m) e = absurd (let z : _≡_ {A = ℕ} 0 1 = cc in omega arith)
+
 pub between : {j k : ℕ} (a b : Kind) → j ≡ kindNo a → k ≡ kindNo b → rankBetween j k ≡ kindRank a b
 unfolding rankBetween ofKind
 between a b e f = rw (e, f, kind-back a, kind-back b)
+
+-- ---- scalars by their kinds
+
+module _ {from to : ℕ} (a b : Kind) (e : from ≡ kindNo a) (f : to ≡ kindNo b) where
+  kinds : some? (rankBetween from to) ≡ converts (Ts a) (Ts b)
+  kinds = ap some? (between a b e f) ∙ sym (converts-lit a b)
+
+  pub kind-yes : {n : ℕ} → At n ≡ rankOf (rankBetween from to) → true ≡ converts (Ts a) (Ts b)
+  kind-yes h = rank-some (rankBetween from to) h ∙ kinds
+
+  pub kind-not : Never ≡ rankOf (rankBetween from to) → false ≡ converts (Ts a) (Ts b)
+  kind-not h = rank-none (rankBetween from to) h ∙ kinds
+
+-- a type of three bytes is a scalar
+pub three-scalar : {s : List ℕ} {t : Ty} → Whole s t → length s ≡ 3 → ScalarIs 15 s 0 (getD s 2 0) t (length s)
+unfolding tyBytes le
+three-scalar {s} {t = Ts k} w h = record { kind = k; no = at-of s _ 0 (w .here) 2; is = refl; end = sym h }
+three-scalar {t = Tv n k} w h = absurd (omega (arith, w .size))
+three-scalar {t = Tm c r k} w h = absurd (omega (arith, w .size))
+three-scalar {t = Ta n u} w h = absurd (omega (arith, w .size))
+three-scalar {t = Tu i m} w h = absurd (omega (arith, w .size))
+
+pub scalars-convert : {a b : List ℕ} {t u : Ty} → Whole a t → length a ≡ 3 → Whole b u → length b ≡ 3 → {r : Bool} → KindConverts (getD a 2 0) (getD b 2 0) r → r ≡ converts t u
+scalars-convert w h v i f =
+    let x = three-scalar w h in
+    let y = three-scalar v i in
+    f (x .kind) (y .kind) (x .no) (y .no) ∙ ap₂ converts (sym (x .is)) (sym (y .is))
 
 -- ---- the shape of a type is its record but for the last byte
 
@@ -160,20 +200,12 @@ never-told none e = refl
 never-told (some m) e = absurd (let z : _≡_ {A = ℕ} 0 1 = cc in omega arith)
 
 pub rank-converts : (t u : Ty) {n : ℕ} → At n ≡ rankOf (rank t u) → true ≡ converts t u
-unfolding converts some?
-rank-converts t u e = go (rank t u) (rank-told (rank t u) e)
-  where
-    go : (o : Option ℕ) {n : ℕ} → ok n ≡ orNo 9 o → true ≡ some? o
-    go none e = absurd (let z : _≡_ {A = ℕ} 0 1 = cc in omega arith)
-    go (some m) e = refl
+unfolding converts
+rank-converts t u e = rank-some (rank t u) e
 
 pub never-converts : (t u : Ty) → Never ≡ rankOf (rank t u) → false ≡ converts t u
-unfolding converts some?
-never-converts t u e = go (rank t u) (never-told (rank t u) e)
-  where
-    go : (o : Option ℕ) → no 9 ≡ orNo 9 o → false ≡ some? o
-    go none e = refl
-    go (some m) e = absurd (let z : _≡_ {A = ℕ} 0 1 = cc in omega arith)
+unfolding converts
+never-converts t u e = rank-none (rank t u) e
 
 module _ (s args : List ℕ) where
   pub of-answer : {t : Ty} → readTarget s ≡ some (Of t) → rankAnswer s args ≡ rankRead (Of t) args

@@ -1,8 +1,8 @@
 -- One item where it stands; and what a loop over items has left.
-use mathlib.Core.Path.{_≡_, refl, sym, ap, _∙_, subst}
+use mathlib.Core.Path.{_≡_, refl, sym, ap, ap₂, _∙_, subst}
 use mathlib.Core.Option.{Option, none, some}
 use mathlib.Core.List.{List, [], _∷_, _++_, append-assoc}
-use mathlib.Core.Bool.{true, false}
+use mathlib.Core.Bool.{Bool, true}
 use Prim.Native.Nat.{ℕ, _+_, _-_, _≤_, _<_}
 use native.Mathlib.Omega.{arith}
 use lib.Dec.{T}
@@ -17,7 +17,7 @@ use Rattle.laws.proofs.AgreeLit.{kind-back}
 use Rattle.laws.proofs.Back.{and-l, and-r}
 use Rattle.laws.proofs.BackVal.{lit-fits}
 use Rattle.laws.proofs.Length.{le-len, lit-len}
-use Rattle.laws.proofs.Sound.{some-inj}
+use Rattle.laws.proofs.Sound.{some-inj, no-some}
 use Rattle.kind.specs.Ends.{ofKind}
 use Rattle.literal.specs.declared.Converted.{Converted}
 use Rattle.literal.specs.declared.Converted.the-variants.{To, Unfit}
@@ -25,7 +25,7 @@ use Rattle.literal.specs.Told.{convertedOf, convBetween}
 use Rattle.ty.specs.Heads.{Sized, mostLit}
 use Rattle.ty.proofs.Places.{at-of, past}
 use Rattle.conv.specs.Writers.{Put, widthOf, literalOf, numberAt}
-use Rattle.conv.specs.Items.{Item, Literal, Vector, Matrix, Array, itemBytes, bytesOf, goodItem, convItem, ItemAt, ItemsAt, literalTo}
+use Rattle.conv.specs.Items.{Item, Literal, Vector, Matrix, Array, itemBytes, bytesOf, goodItem, convItem, ItemAt, ItemsAt, literalAs, literalTo}
 use Rattle.conv.proofs.Bytes.{width-of, number-of, literal-bytes}
 
 -- ---- one item
@@ -73,6 +73,11 @@ literal-is s rest i (Literal k p) h g m =
 literal-is s rest i (Vector n) h g m = absurd (omega (arith, mark-of s rest i (Vector n) h))
 literal-is s rest i (Matrix c r) h g m = absurd (omega (arith, mark-of s rest i (Matrix c r) h))
 literal-is s rest i (Array n) h g m = absurd (omega (arith, mark-of s rest i (Array n) h))
+
+-- converted by those numbers
+literal-as : {s : List ℕ} {i : ℕ} {a : Item} (x : LiteralIs s i a) {k : ℕ} (j : Kind) → k ≡ kindNo j → literalAs k s i ≡ conv j (x .kind) (x .pay)
+unfolding convBetween ofKind
+literal-as x j n = rw (x .no, width-of (x .kind), x .num, n, kind-back (x .kind), kind-back j)
 
 vector-size : (a : Item) → markOf a ≡ ‘v’ → length (itemBytes a) ≡ 3
 unfolding itemBytes markOf
@@ -146,43 +151,35 @@ module _ {s : List ℕ} {i : ℕ} {a : Item} (w : ItemAt s i a) where
     pub literal-within : i + (3 + widthOf (getD s (i + 2) 0)) ≤ length s
     literal-within = let x = literal-here m in rw (x .no, width-of (x .kind)) (omega (arith, item-within, x .size))
 
-    module _ {k : ℕ} (j : Kind) (n : k ≡ kindNo j) {r : Converted} (c : r ≡ literalTo k s i) where
-      literal-to : (x : LiteralIs s i a) → r ≡ convertedOf (conv j (x .kind) (x .pay))
-      unfolding convBetween ofKind
-      literal-to x = c ∙ (rw (x .no, width-of (x .kind), x .num, n, kind-back (x .kind), kind-back j))
-
-      literal-goes : (x : LiteralIs s i a) → convItem j a ≡ mapSome (Literal j) (conv j (x .kind) (x .pay))
+    module _ {k : ℕ} (j : Kind) (n : k ≡ kindNo j) where
+      literal-goes : convItem j a ≡ mapSome (Literal j) (literalAs k s i)
       unfolding convItem
-      literal-goes x = ap (convItem j) (x .is)
+      literal-goes = let x = literal-here m in ap (convItem j) (x .is) ∙ ap (mapSome (Literal j)) (sym (literal-as x j n))
 
-      pub literal-fits : {p : ℕ} → r ≡ To p → true ≡ some? (convItem j a)
-      unfolding convertedOf mapSome some?
-      literal-fits {p} e = let x = literal-here m in rw (literal-goes x) (go (conv j (x .kind) (x .pay)) (sym e ∙ literal-to x))
+      pub literal-fits : {r : Bool} → r ≡ some? (literalAs k s i) → r ≡ some? (convItem j a)
+      unfolding mapSome some?
+      literal-fits e = e ∙ (go (literalAs k s i) ∙ ap some? (sym literal-goes))
         where
-          go : (o : Option ℕ) → To p ≡ convertedOf o → true ≡ some? (mapSome (Literal j) o)
-          go none h = absurd (let z : _≡_ {A = ℕ} 0 1 = cc in omega arith)
-          go (some q) h = refl
+          go : (o : Option ℕ) → some? o ≡ some? (mapSome (Literal j) o)
+          go none = refl
+          go (some q) = refl
 
-      pub literal-not : r ≡ Unfit → false ≡ some? (convItem j a)
-      unfolding convertedOf mapSome some?
-      literal-not e = let x = literal-here m in rw (literal-goes x) (go (conv j (x .kind) (x .pay)) (sym e ∙ literal-to x))
-        where
-          go : (o : Option ℕ) → Unfit ≡ convertedOf o → false ≡ some? (mapSome (Literal j) o)
-          go none h = refl
-          go (some q) h = absurd (let z : _≡_ {A = ℕ} 0 1 = cc in omega arith)
-
-      module _ {b : Item} (g : convItem j a ≡ some b) where
+      module _ {r : Converted} (c : r ≡ literalTo k s i) {b : Item} (g : convItem j a ≡ some b) where
         pub literal-into : {p : ℕ} → r ≡ To p → b ≡ Literal j p
         unfolding convertedOf mapSome
-        literal-into {p} e = let x = literal-here m in go (conv j (x .kind) (x .pay)) (sym e ∙ literal-to x) (sym (literal-goes x) ∙ g)
+        literal-into {p} e = go (literalAs k s i) (sym e ∙ c) (sym literal-goes ∙ g)
           where
             go : (o : Option ℕ) → To p ≡ convertedOf o → mapSome (Literal j) o ≡ some b → b ≡ Literal j p
             go none h u = absurd (let z : _≡_ {A = ℕ} 0 1 = cc in omega arith)
             go (some q) h u = cc
 
         pub literal-never : r ≡ Unfit → ⊥
-        unfolding some?
-        literal-never e = let z : false ≡ true = literal-not e ∙ ap some? g in let y : _≡_ {A = ℕ} 0 1 = cc in omega arith
+        unfolding convertedOf mapSome
+        literal-never e = go (literalAs k s i) (sym e ∙ c) (sym literal-goes ∙ g)
+          where
+            go : (o : Option ℕ) → Unfit ≡ convertedOf o → mapSome (Literal j) o ≡ some b → ⊥
+            go none h u = no-some u
+            go (some q) h u = absurd (let z : _≡_ {A = ℕ} 0 1 = cc in omega arith)
 
         pub literal-room : {p : ℕ} (to : ℕ) {most : ℕ} → r ≡ To p → to + length (itemBytes b) ≤ most → to + (3 + widthOf k) ≤ most
         unfolding itemBytes litLen
@@ -192,6 +189,13 @@ module _ {s : List ℕ} {i : ℕ} {a : Item} (w : ItemAt s i a) where
         unfolding itemBytes
         literal-put {out} {out′} {to} {t} {p} e y =
             subst (λ (l : List ℕ). Put out to l t out′) (ap (λ (z : ℕ). literalOf z p) n ∙ (literal-bytes j p ∙ ap itemBytes (sym (literal-into e)))) y
+
+-- a literal that is known, converted by the numbers in its record
+pub literal-of : {s : List ℕ} {i : ℕ} {h : Kind} {p : ℕ} → ItemAt s i (Literal h p) → {k : ℕ} (j : Kind) → k ≡ kindNo j → literalAs k s i ≡ conv j h p
+unfolding markOf
+literal-of w j n =
+    let x = literal-here w (mark-is w) in
+    literal-as x j n ∙ ap₂ (conv j) (cc (x .is)) (cc (x .is))
 
 -- ---- the items that are left
 

@@ -91,8 +91,11 @@ pub record SomeItems (s : List ℕ) (from e : ℕ) : Type 0 where
 -- ---- one item
 
 -- the literal whose record stands at i, converted to the kind whose number k is; by the numbers in the record
+abbrev pub literalAs : ℕ → List ℕ → ℕ → Option ℕ
+literalAs k s i = let j = getD s (i + 2) 0 in convBetween k j (numberAt s (i + 3) (widthOf j))
+
 abbrev pub literalTo : ℕ → List ℕ → ℕ → Converted
-literalTo k s i = let j = getD s (i + 2) 0 in convertedOf (convBetween k j (numberAt s (i + 3) (widthOf j)))
+literalTo k s i = convertedOf (literalAs k s i)
 
 abbrev pub EndIs : List ℕ → ℕ → ℕ → Type 0
 EndIs s i r = (a : Item) → ItemAt s i a → r ≡ i + length (itemBytes a)

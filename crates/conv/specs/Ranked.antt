@@ -4,7 +4,8 @@ use mathlib.Core.List.{List}
 use mathlib.Core.Bool.{Bool}
 use Prim.Native.Nat.{ℕ, _-_}
 use lib.ListN.{length, take}
-use Rattle.meaning.specs.Trees.{Ty, Target, Of, Tr}
+use Rattle.meaning.specs.Kinds.{Kind, kindNo}
+use Rattle.meaning.specs.Trees.{Ty, Ts, Target, Of, Tr}
 use Rattle.meaning.specs.Read.{readTys}
 use Rattle.meaning.specs.Answers.{Result, ok, no, orNo, _>>=_}
 use Rattle.meaning.specs.Convert.{rank, converts}
@@ -29,6 +30,10 @@ RankIs a b r = (t u : Ty) → Whole a t → Whole b u → r ≡ rankOf (rank t u
 -- whether that type converts to this
 abbrev pub ConvertsIs : List ℕ → List ℕ → Bool → Type 0
 ConvertsIs a b r = (t u : Ty) → Whole a t → Whole b u → r ≡ converts t u
+
+-- whether the scalar of the one kind converts to the other's, by their numbers
+abbrev pub KindConverts : ℕ → ℕ → Bool → Type 0
+KindConverts from to r = (a b : Kind) → from ≡ kindNo a → to ≡ kindNo b → r ≡ converts (Ts a) (Ts b)
 
 -- all but the last byte
 abbrev pub front : List ℕ → List ℕ

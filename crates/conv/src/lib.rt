@@ -8,12 +8,13 @@ ghost use mathlib.Core.Path.{_≡_};
 ghost use mathlib.Core.List.{[], _∷_};
 ghost use Prim.Native.Nat.{_≤_, _<_, _+_, _-_, _%_};
 ghost use lib.ListN.{length, getD, take, drop};
+ghost use Rattle.meaning.specs.Scalars.{some?};
 ghost use Rattle.meaning.specs.Entries.{rankAnswer};
 ghost use Rattle.meaning.specs.Records.{‘V’, le};
 ghost use Rattle.ty.specs.Targets.{sameBytes};
-ghost use Rattle.conv.specs.Ranked.{OneType, RankIs, ConvertsIs, front, paper, RanksTo, RanksToRuntime};
+ghost use Rattle.conv.specs.Ranked.{OneType, RankIs, ConvertsIs, KindConverts, front, paper, RanksTo, RanksToRuntime};
 ghost use Rattle.conv.specs.Writers.{Put, widthOf, literalOf, numberAt};
-ghost use Rattle.conv.specs.Items.{SomeItem, SomeItems, literalTo, EndIs, ItemFits, ItemRoom, ItemPut, Fits, Convertible, Converts};
+ghost use Rattle.conv.specs.Items.{SomeItem, SomeItems, literalAs, literalTo, EndIs, ItemFits, ItemRoom, ItemPut, Fits, Convertible, Converts};
 ghost use Rattle.conv.specs.Values.{SomeValueTo, ValueFits, ValueRoom, ValuePut};
 
 // The answer of the entry `conversion_rank`: a rank, or the number of the refusal.
@@ -57,8 +58,18 @@ pub fn type_rank(a: &[u8], b: &[u8]) -> Rank
     Rank::Never
 }
 
-// Whether the type a converts to the type b.
-pub fn type_converts(a: &[u8], b: &[u8]) -> bool
+// Whether a scalar of the one kind converts to the other.
+pub fn kind_converts(from: u8, to: u8) -> bool
+    ensures { λ r. ⌜ KindConverts from to r ⌝ }
+{
+    match literal::kind_rank(from, to) {
+        Rank::At(_) => true,
+        Rank::Never => false,
+    }
+}
+
+// Whether the type a converts to the type b, whatever they are.
+fn other_converts(a: &[u8], b: &[u8]) -> bool
     requires { ⌜ OneType (now a) ⌝ }
     requires { ⌜ OneType (now b) ⌝ }
     ensures { λ r. ⌜ ConvertsIs (now (a .entry)) (now (b .entry)) r ⌝ }
@@ -67,6 +78,20 @@ pub fn type_converts(a: &[u8], b: &[u8]) -> bool
         Rank::At(_) => true,
         Rank::Never => false,
     }
+}
+
+// The same. Two scalars, as most are, by their kinds: a type of three bytes is a scalar.
+pub fn type_converts(a: &[u8], b: &[u8]) -> bool
+    requires { ⌜ OneType (now a) ⌝ }
+    requires { ⌜ OneType (now b) ⌝ }
+    ensures { λ r. ⌜ ConvertsIs (now (a .entry)) (now (b .entry)) r ⌝ }
+{
+    if a.len() == 3 {
+        if b.len() == 3 {
+            return kind_converts(a[2], b[2]);
+        }
+    }
+    other_converts(a, b)
 }
 
 // The rank to the type that a well-formed target is, of the one type that the arguments have to be.
@@ -264,6 +289,17 @@ fn literal_at(src: &[u8], i: usize, k: u8) -> Converted
     literal::convert_literal(k, j, payload)
 }
 
+// Whether that literal converts to the kind k.
+pub fn literal_fits(src: &[u8], i: usize, k: u8) -> bool
+    requires { ⌜ i + (3 + widthOf (getD (now src) (i + 2) 0)) ≤ length (now src) ⌝ }
+    ensures { λ r. ⌜ r ≡ some? (literalAs k (now (src .entry)) i) ⌝ }
+{
+    let j = src[i + 2];
+    let scalar = Scalar { kind: j };
+    let payload = get_le(src, i + 3, scalar.width());
+    literal::literal_fits(k, j, payload)
+}
+
 // Whether the item converts to the kind k; a mark always does.
 fn item_fits(src: &[u8], i: usize, k: u8) -> bool
     requires { ⌜ SomeItem (now src) i ⌝ }
@@ -273,10 +309,7 @@ fn item_fits(src: &[u8], i: usize, k: u8) -> bool
     if mark != b's' {
         return true;
     }
-    match literal_at(src, i, k) {
-        Converted::To(_) => true,
-        Converted::Unfit => false,
-    }
+    literal_fits(src, i, k)
 }
 
 // The item, a literal converted to the kind k, a mark as it stands.

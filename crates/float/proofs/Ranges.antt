@@ -4,13 +4,14 @@ use mathlib.Core.Logic.{_⊎_, inl, inr}
 use mathlib.Core.Bool.{Bool, true, false, not, cond}
 use Prim.Native.Nat.{ℕ, suc, _+_, _-_, _*_, _/_, _%_, _^_, _≤_, _<_, min}
 use native.Mathlib.Nat.{lt-of-lt-of-le, lt-of-not-le, not-le-of-lt, div-lt-iff-lt-mul, le-div-iff-mul-le, div-eq-of-lt, mod-eq-of-lt}
-use native.Mathlib.Nat.{mul-assoc, mul-le-mul-right, lt-of-mul-lt-mul-right, mul-lt-mul-of-pos-right, zero-mul, zero-div, one-mul}
+use native.Mathlib.Nat.{add-comm, zero-add, add-mod-left, mul-assoc, mul-le-mul-right, lt-of-mul-lt-mul-right, mul-lt-mul-of-pos-right, zero-mul, zero-div, one-mul}
 use native.Mathlib.Omega.{arith}
 use lib.Dec.{leb, ltb, eqb}
 use lib.Pow.{pow-pos, pow-mono, pow-add}
 use borrow.Author.Tests.{le-leb, lt-leb, lt-ltb, le-ltb, eq-eqb, ne-eqb}
-use Rattle.meaning.specs.Floats.{largest}
-use Rattle.laws.proofs.Digits.{le-or-lt, raised, cut-down, cut-up}
+use Rattle.meaning.specs.Floats.{nan, inf, fin, hid, ones, top, bits, finite, largest}
+use Rattle.laws.proofs.Digits.{le-or-lt, Format, top-is, raised, cut-down, cut-up}
+use Rattle.laws.proofs.Rounding.{threshold, Right, right}
 
 -- ---- `cut`, with d for 1074
 
@@ -109,6 +110,38 @@ inside l n d A B = rw (B, A) (not-less (l * 2 ^ d) n)
 pub largest-is : (p emax d : ℕ) {a : ℕ} → a ≡ 2 ^ p → (a - 1) * 2 ^ (emax + 1 - p + d) ≡ largest p emax * 2 ^ d
 unfolding largest
 largest-is p emax d e = rw e (ap (λ (x : ℕ). (2 ^ p - 1) * x) (pow-add 2 (emax + 1 - p) d) ∙ sym (mul-assoc (2 ^ p - 1) (2 ^ (emax + 1 - p)) (2 ^ d)))
+
+-- ---- `rounds_finite`: a number below the threshold, and no NaN and no infinity
+
+module _ (p emax : ℕ) (F : Format p emax) (P : (2 ≤ p) × (1 ≤ emax)) where
+  pub nan-not : false ≡ finite p emax (bits p emax nan)
+  unfolding finite bits
+  nan-not =
+      let b = ones emax * hid p + hid p / 2 in
+      let l : b < top p emax = omega (arith, top-is p emax, pow-pos (p - 1)) in
+      rw (mod-eq-of-lt l) (sym (le-ltb b (ones emax * hid p) (omega arith)))
+
+  pub inf-not : (s : Bool) → false ≡ finite p emax (bits p emax (inf s))
+  unfolding finite bits
+  inf-not s = rw (rest s) (sym (le-ltb (ones emax * hid p) (ones emax * hid p) (omega arith)))
+    where
+      l : ones emax * hid p < top p emax
+      l = omega (arith, top-is p emax, pow-pos (p - 1))
+
+      rest : (s : Bool) → (cond s (top p emax) 0 + ones emax * hid p) % top p emax ≡ ones emax * hid p
+      rest true = add-mod-left (top p emax) (ones emax * hid p) ∙ mod-eq-of-lt l
+      rest false = rw zero-add (mod-eq-of-lt l)
+
+  pub fin-below : (s : Bool) (n : ℕ) {a : ℕ} → a ≡ 2 ^ (p + 1) → ltb n ((a - 1) * 2 ^ (emax + 1074 - p)) ≡ finite p emax (bits p emax (fin s n))
+  unfolding threshold
+  fin-below s n e = rw (e, add-comm emax 1074) (go (le-or-lt (threshold p emax) n))
+    where
+      R : Right p emax
+      R = right p emax F (P .0) (P .1)
+
+      go : (threshold p emax ≤ n) ⊎ (n < threshold p emax) → ltb n (threshold p emax) ≡ finite p emax (bits p emax (fin s n))
+      go (inl h) = le-ltb n (threshold p emax) h ∙ sym (R .above-finite s n h)
+      go (inr h) = lt-ltb n (threshold p emax) h ∙ sym (R .below-finite s n h)
 
 -- ---- `toward`: the end of the range on the side of the sign
 

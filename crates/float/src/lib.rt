@@ -423,3 +423,17 @@ pub fn outside(p: u64, emax: u64, v: Parts) -> bool
         Parts::Fin(_, m, e) => beyond(m, e, power(p) - 1, emax + 1 - p + 1074),
     }
 }
+
+// Whether the nearest value of the format is finite, told without making its pattern. It is finite below the threshold, half a last place past the largest
+// value: at the threshold there is a tie, and the even neighbour is the infinity. The threshold is p + 1 ones with emax - p places below them.
+pub fn rounds_finite(p: u64, emax: u64, v: Parts) -> bool
+    requires { ⌜ Format p emax ⌝ }
+    requires { ⌜ (2 ≤ p) × (1 ≤ emax) ⌝ }
+    ensures { λ r. ⌜ r ≡ Floats.finite p emax (bits p emax (meaning v)) ⌝ }
+{
+    match v {
+        Parts::Nan => false,
+        Parts::Inf(_) => false,
+        Parts::Fin(_, m, e) => beyond(power(p + 1) - 1, emax + 1074 - p, m, e),
+    }
+}

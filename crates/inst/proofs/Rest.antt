@@ -9,7 +9,7 @@ use lib.Dec.{T, leb, le→leb, leb→le}
 use lib.ListN.{length, drop, length-drop, length-append, length-map}
 use lib.Seq.{drop-length}
 use Rattle.meaning.specs.Kinds.{Kind}
-use Rattle.meaning.specs.Trees.{Ty, Val, Target, Of, Tr, Qa, Qv, Qm, typeOf, depth}
+use Rattle.meaning.specs.Trees.{Ty, Ts, Val, Target, Of, Tr, Qa, Qv, Qm, typeOf, depth}
 use Rattle.meaning.specs.Records.{tyBytes, valBytes, joined, every, shapedTy, shapedVal, goodWithin, goodTy, goodVal, goodArg, goodTys, goodArgs}
 use Rattle.meaning.specs.Read.{pTy, pVal, readTys, readVals}
 use Rattle.laws.proofs.Back.{and-l, and-r, shaped-of, deep-of, ty-back}
@@ -20,9 +20,9 @@ use Rattle.laws.proofs.Exact.{Exactly, vals-exact, tys-exact}
 use Rattle.ty.specs.Stands.{Stands}
 use Rattle.ty.proofs.Places.{past}
 use Rattle.ty.specs.Fronts.{kindNumber}
-use Rattle.ty.proofs.Numbers.{is-number}
+use Rattle.ty.proofs.Numbers.{kind-of, is-number}
 use Rattle.inst.specs.Values.{Fits, Typed}
-use Rattle.inst.specs.Answers.{Told}
+use Rattle.inst.specs.Answers.{Told, LiteralAt}
 use Rattle.inst.specs.Derives.{LeafFront}
 use Rattle.inst.specs.declared.ValueEnd.{ValueEnd}
 use Rattle.inst.specs.declared.ValueEnd.the-variants.{At, Bad as Unended}
@@ -183,13 +183,23 @@ module _ (d m : ℕ) where
 
 -- ---- scalars, vectors and matrices
 
+-- a type within the limits, and what was told of a value of it
+module _ (s : List ℕ) (at : ℕ) (t : Ty) (p : T (shapedTy t)) (q : depth t ≤ 2) (h : length (tyBytes t) ≤ 7) where
+  flat-as : (r : ValueEnd) → Told (Fits s at t) r → Flat s at r
+  flat-as (At e) w = record { type = t; typed = record { fits = w; shaped = p; deep = q }; short = h }
+  flat-as Unended w = tt
+
 module _ {s : List ℕ} {at k : ℕ} (g : Kind → Ty) (f : LeafFront 2 s at g k) where
   pub flat-kind : T (kindNumber k)
   flat-kind = subst (λ (n : ℕ). T (kindNumber n)) (sym (f .no)) (is-number (f .kind))
 
   pub flat-of : (r : ValueEnd) → ((j : Kind) → length (tyBytes (g j)) ≤ 7) → Told (Fits s at (g (f .kind))) r → Flat s at r
-  flat-of (At e) h w = record { type = g (f .kind); typed = record { fits = w; shaped = f .shaped; deep = f .deep }; short = h (f .kind) }
-  flat-of Unended h w = tt
+  flat-of r h w = flat-as s at (g (f .kind)) (f .shaped) (f .deep) (h (f .kind)) r w
+
+-- a literal is such an argument, whatever its kind
+pub flat-literal : (s : List ℕ) (at : ℕ) {k : ℕ} → T (kindNumber k) → (r : ValueEnd) → LiteralAt s at k r → Flat s at r
+unfolding tyBytes shapedTy depth
+flat-literal s at {k} h r w = let j = kind-of k h in flat-as s at (Ts (j .kind)) tt (omega arith) (omega arith) r (w (j .kind) (j .no))
 
 -- one more was read
 pub flat-all : (s : List ℕ) → FlatLeft s 0 0

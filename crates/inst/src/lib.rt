@@ -665,17 +665,41 @@ fn bytes_for(tight: bool) -> usize
     4096
 }
 
-// The end of the scalar, vector or matrix that stands at `at`. What such a value's type is follows from its first bytes, so its record need not be written.
-fn flat_end(s: &[u8], at: usize) -> ValueEnd
+// The end of the literal that stands at `at`, if one does. Most arguments are literals, and the third byte of one is its kind.
+fn literal_end(s: &[u8], at: usize) -> ValueEnd
+    ensures { λ r. ⌜ Flat (now (s .entry)) at r ⌝ }
+{
+    if ty::room(s, at) < 3 {
+        return ValueEnd::Bad;
+    }
+    let k = s[at + 2];
+    if !ty::is_kind(k) {
+        return ValueEnd::Bad;
+    }
+    literal_as(s, at, k)
+}
+
+// The end of the vector or matrix that stands at `at`. What such a value's type is follows from its first bytes, so its record need not be written.
+fn other_flat_end(s: &[u8], at: usize) -> ValueEnd
     ensures { λ r. ⌜ Flat (now (s .entry)) at r ⌝ }
 {
     match front_at(s, at, 2) {
-        Front::Scalar(k) => literal_as(s, at, k),
+        Front::Scalar(_) => ValueEnd::Bad,
         Front::Vector(n, k) => vector_as(s, at, n, k),
         Front::Matrix(c, r, k) => matrix_as(s, at, c, r, k),
         Front::Array(_) => ValueEnd::Bad,
         Front::Struct(_, _) => ValueEnd::Bad,
         Front::Neither => ValueEnd::Bad,
+    }
+}
+
+// The end of the scalar, vector or matrix that stands at `at`. A literal is looked for first, without asking for the front.
+fn flat_end(s: &[u8], at: usize) -> ValueEnd
+    ensures { λ r. ⌜ Flat (now (s .entry)) at r ⌝ }
+{
+    match literal_end(s, at) {
+        ValueEnd::At(e) => ValueEnd::At(e),
+        ValueEnd::Bad => other_flat_end(s, at),
     }
 }
 

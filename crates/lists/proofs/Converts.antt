@@ -30,9 +30,10 @@ use Rattle.conv.specs.Values.{plain, plains}
 use Rattle.conv.specs.Writers.{Put}
 use Rattle.conv.proofs.Ranks.{KindIs, kind-is, struct-is}
 use Rattle.conv.proofs.Types.{leaf-plain, leaf-from}
+use Rattle.conv.proofs.Loops.{all-cons}
 use Rattle.conv.proofs.Values.{Scan, list-scan}
-use Rattle.call.specs.Row.{Row, TypeIs, Types}
-use Rattle.call.proofs.Rows.{some-val, row-none, row-bytes, each-shaped}
+use Rattle.call.specs.Row.{Row, SomeArg, Skips}
+use Rattle.call.proofs.Rows.{some-val, row-some, row-none, row-bytes, each-shaped}
 use Rattle.lists.specs.Lists.{allTo, AskedFit}
 use Rattle.lists.proofs.Left.{RowMore, row-more}
 
@@ -155,43 +156,57 @@ asked-all p {l} {t} w v =
     let j : p .type ≡ t = same-type (p .stands) v in
     subst (λ (u : Ty). T (allTo u l)) j (subst (λ (m : List Val). T (allTo (p .type) m)) i (p .converts))
 
--- ---- the types one by one: what is left converts to a type of which P holds exactly where all does
+-- ---- one by one
 
-pub record ToLeft (s : List ℕ) (i : ℕ) (P : Ty → Type 0) (l : List Val) : Type 0 where
+-- each argument converts to t
+abbrev pub allFit : Ty → List Val → Bool
+allFit t l = some? (allSome (convVal t) l)
+
+-- a test of all of a list asks each of its elements
+pub record Each (one : Ty → Val → Bool) (all : Ty → List Val → Bool) : Type 0 where
+  pub nil : (t : Ty) → true ≡ all t []
+  pub cons : (t : Ty) (v : Val) (l : List Val) → one t v && all t l ≡ all t (v ∷ l)
+
+pub each-to : Each (λ t v. converts (typeOf v) t) allTo
+unfolding every
+each-to = record { nil = λ t. refl; cons = λ t v l. refl }
+
+pub each-fit : Each (λ t v. some? (convVal t v)) allFit
+unfolding allSome some?
+each-fit = record { nil = λ t. refl; cons = λ t v l. sym (all-cons (convVal t) v l) }
+
+-- the test holds of what is left exactly where it holds of all, for each type of which P holds
+pub record ToLeft (all : Ty → List Val → Bool) (s : List ℕ) (i : ℕ) (P : Ty → Type 0) (l : List Val) : Type 0 where
   pub left : List Val
   pub row : Row s i left
-  pub same : (t : Ty) → P t → allTo t left ≡ allTo t l
+  pub same : (t : Ty) → P t → all t left ≡ all t l
 
-pub to-all : {s : List ℕ} {i : ℕ} (P : Ty → Type 0) (l : List Val) → Row s i l → ToLeft s i P l
-to-all P l w = record { left = l; row = w; same = λ t p. refl }
+pub to-all : (all : Ty → List Val → Bool) {s : List ℕ} {i : ℕ} (P : Ty → Type 0) (l : List Val) → Row s i l → ToLeft all s i P l
+to-all all P l w = record { left = l; row = w; same = λ t p. refl }
 
-module _ {s : List ℕ} {i : ℕ} {P : Ty → Type 0} {l : List Val} (g : ToLeft s i P l) where
+module _ {one : Ty → Val → Bool} {all : Ty → List Val → Bool} (x : Each one all) {s : List ℕ} {i : ℕ} {P : Ty → Type 0} {l : List Val} (g : ToLeft all s i P l) where
+  module _ (m : RowMore s i (g .left)) {r : Bool} where
+    split : (t : Ty) → P t → r ≡ one t (m .value) → r && all t (m .others) ≡ all t l
+    split t p c = ap (λ (b : Bool). b && all t (m .others)) c ∙ (x .cons t (m .value) (m .others) ∙ (ap (all t) (sym (m .is)) ∙ g .same t p))
+
+    pub to-no : (t : Ty) → P t → r ≡ one t (m .value) → r ≡ false → false ≡ all t l
+    to-no t p c h = rw h at (split t p c)
+
+    pub to-on : ((t : Ty) → P t → r ≡ one t (m .value)) → r ≡ true → {e : ℕ} → Row s e (m .others) → ToLeft all s e P l
+    to-on c h w = record { left = m .others; row = w; same = λ t p. rw h at (split t p (c t p)) }
+
+  pub to-end : (t : Ty) → P t → length s ≤ i → true ≡ all t l
+  to-end t p h = x .nil t ∙ (ap (all t) (sym (row-none (g .left) (g .row) h)) ∙ g .same t p)
+
+module _ {all : Ty → List Val → Bool} {s : List ℕ} {i : ℕ} {P : Ty → Type 0} {l : List Val} (g : ToLeft all s i P l) where
   pub to-more : i < length s → RowMore s i (g .left)
   to-more h = row-more (g .left) (g .row) h
 
-  -- the next argument's type, as it is derived
-  pub record NextTo (e q : ℕ) (buf : List ℕ) : Type 0 where
-    pub more : RowMore s i (g .left)
-    pub type : TypeIs s i (more .value) (more .others) e q buf
-    pub less : i < e
+  pub to-some : i < length s → SomeArg s i
+  to-some h = row-some (g .left) (g .row) h
 
-  pub to-next : i < length s → {e q : ℕ} {buf : List ℕ} → Types s i e q buf → NextTo e q buf
-  to-next h x = let m = to-more h in let y = x (m .value) (m .others) (m .row) in record { more = m; type = y; less = omega (arith, y .next .end, some-val (m .value)) }
-
-  module _ (m : RowMore s i (g .left)) {r : Bool} where
-    split : (t : Ty) → P t → r ≡ converts (typeOf (m .value)) t → r && allTo t (m .others) ≡ allTo t l
-    unfolding every
-    split t p c = ap (λ (b : Bool). b && allTo t (m .others)) c ∙ (ap (allTo t) (sym (m .is)) ∙ g .same t p)
-
-    pub to-no : (t : Ty) → P t → r ≡ converts (typeOf (m .value)) t → r ≡ false → false ≡ allTo t l
-    to-no t p c h = rw h at (split t p c)
-
-    pub to-on : ((t : Ty) → P t → r ≡ converts (typeOf (m .value)) t) → r ≡ true → {e : ℕ} → Row s e (m .others) → ToLeft s e P l
-    to-on c h w = record { left = m .others; row = w; same = λ t p. rw h at (split t p (c t p)) }
-
-  pub to-end : (t : Ty) → P t → length s ≤ i → true ≡ allTo t l
-  unfolding every
-  to-end t p h = ap (allTo t) (sym (row-none (g .left) (g .row) h)) ∙ g .same t p
+  pub to-less : i < length s → {e : ℕ} → Skips s i e → i < e
+  to-less h x = let m = to-more h in omega (arith, x (m .value) (m .others) (m .row) .end, some-val (m .value))
 
 -- ---- both together
 

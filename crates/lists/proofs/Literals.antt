@@ -1,67 +1,48 @@
 -- Literals among the arguments, and their types by their kinds.
 use mathlib.Core.Path.{_≡_, refl, sym, ap, _∙_, subst}
 use mathlib.Core.Option.{Option, none, some}
-use mathlib.Core.List.{List, [], _∷_, _++_}
-use mathlib.Core.Bool.{Bool, true, false}
+use mathlib.Core.List.{List, [], _∷_}
+use mathlib.Core.Bool.{Bool, true, false, cond}
 use Prim.Native.Nat.{ℕ, _+_, _≤_, _<_}
 use native.Mathlib.Omega.{arith}
-use lib.ListN.{length, getD, drop, set, length-append, length-set}
+use lib.ListN.{length, getD, drop, set, length-set}
 use lib.Seq.{sets}
 use Rattle.meaning.specs.Kinds.{Kind, kindNo}
-use Rattle.meaning.specs.Scalars.{some?}
-use Rattle.meaning.specs.Trees.{Ty, Ts, Val, Vs, Vv, Vm, Va, Vu, typeOf, depth, countVals, litLen}
-use Rattle.meaning.specs.Records.{‘T’, ‘s’, le, tyBytes, valBytes, valsBytes, litBytes, vecBytes, joined, shapedTy}
-use Rattle.meaning.specs.Convert.{converts, meet, commonFrom}
+use Rattle.meaning.specs.Scalars.{conv, some?}
+use Rattle.meaning.specs.Trees.{Ty, Ts, Val, Vs, Vv, Vm, Va, Vu, typeOf, leaf, depth, litLen}
+use Rattle.meaning.specs.Records.{‘T’, ‘s’, tyBytes, valBytes, litBytes, joined, shapedTy, shapedVal}
+use Rattle.meaning.specs.Answers.{mapSome}
+use Rattle.meaning.specs.Convert.{converts, convLits, convLeaf, convVal, meet, commonFrom}
 use Rattle.meaning.specs.Build.{litKind}
-use Rattle.laws.proofs.AgreeVec.{converts-lit, not-to-scalar}
-use Rattle.laws.proofs.Length.{le-len, lit-len}
-use Rattle.literal.specs.Told.{rankOf, rankBetween}
-use Rattle.literal.specs.declared.Rank.{Rank}
-use Rattle.literal.specs.declared.Rank.the-variants.{At, Never}
+use Rattle.laws.proofs.AgreeConv.{conv-not}
+use Rattle.laws.proofs.AgreeVec.{converts-lit, conv-no, not-to-scalar}
 use Rattle.ty.specs.Stands.{Stands}
 use Rattle.ty.specs.Heads.{Sized, mostLit}
 use Rattle.ty.proofs.Heads.{scalar-by}
 use Rattle.ty.proofs.Places.{at-of, same-type}
 use Rattle.inst.proofs.Writes.{three-sets, wrote-stands}
-use Rattle.conv.proofs.Ranks.{between}
-use Rattle.call.specs.Row.{Row, NextIs}
-use Rattle.call.proofs.Rows.{row-has}
-use Rattle.call.proofs.Literals.{least, LiteralIs, mark, literal-by, literal-end}
-use Rattle.lists.specs.Lists.{partOf, partType, partTypes, PartIs, Commons, Goes, KindConverts, KindMet, KindsMeet}
+use Rattle.conv.specs.Writers.{widthOf}
+use Rattle.conv.specs.Items.{Literal, itemBytes, goodItem, ItemAt, literalAs}
+use Rattle.conv.proofs.Steps.{literal-within, literal-of}
+use Rattle.conv.proofs.Values.{some-map}
+use Rattle.call.specs.Row.{Row}
+use Rattle.call.proofs.Rows.{row-shaped}
+use Rattle.call.proofs.Literals.{LiteralIs, mark, literal-end}
+use Rattle.call.proofs.Firsts.{three-bytes}
+use Rattle.lists.specs.Lists.{partOf, partType, partTypes, PartIs, Commons, Goes, KindMet, KindsMeet}
 use Rattle.lists.specs.declared.Common.{Common}
 use Rattle.lists.specs.declared.Met.{Met}
 use Rattle.lists.specs.declared.Met.the-variants.{Both, Neither}
 use Rattle.lists.proofs.Left.{RowMore, row-more, CommonLeft, left-at, left-none}
 
--- ---- kinds
-
-module _ {from to : ℕ} (a b : Kind) (e : from ≡ kindNo a) (f : to ≡ kindNo b) where
-  pub kind-yes : {n : ℕ} {r : Rank} → r ≡ rankOf (rankBetween from to) → r ≡ At n → true ≡ converts (Ts a) (Ts b)
-  unfolding rankOf some?
-  kind-yes {n} p q = go (rankBetween from to) refl (sym q ∙ p)
-    where
-      go : (o : Option ℕ) → rankBetween from to ≡ o → At n ≡ rankOf o → true ≡ converts (Ts a) (Ts b)
-      go none h g = absurd (let z : _≡_ {A = ℕ} 0 1 = cc in omega arith)
-      go (some m) h g = ap some? (sym h ∙ between a b e f) ∙ sym (converts-lit a b)
-
-  pub kind-no : {r : Rank} → r ≡ rankOf (rankBetween from to) → r ≡ Never → false ≡ converts (Ts a) (Ts b)
-  unfolding rankOf some?
-  kind-no p q = go (rankBetween from to) refl (sym q ∙ p)
-    where
-      go : (o : Option ℕ) → rankBetween from to ≡ o → Never ≡ rankOf o → false ≡ converts (Ts a) (Ts b)
-      go none h g = ap some? (sym h ∙ between a b e f) ∙ sym (converts-lit a b)
-      go (some m) h g = absurd (let z : _≡_ {A = ℕ} 0 1 = cc in omega arith)
-
 -- ---- a literal among the arguments
 
 module _ {s : List ℕ} {i : ℕ} where
   pub row-three : (l : List Val) → Row s i l → i < length s → i + 3 ≤ length s
-  row-three l x h =
-      let m = row-more l x h in
-      omega (arith, row-has (m .row) .bytes .within, least (m .value))
+  row-three l x h = three-bytes (row-more l x h .row)
 
   module _ {l : List Val} where
-    pub other-by : {v : Val} → Row s i (v ∷ l) → (getD s (i + 1) 0 ≡ ‘s’ → ⊥) → (k : Kind) → converts (typeOf v) (Ts k) ≡ false
+    other-by : {v : Val} → Row s i (v ∷ l) → (getD s (i + 1) 0 ≡ ‘s’ → ⊥) → (k : Kind) → converts (typeOf v) (Ts k) ≡ false
     unfolding valBytes litBytes litKind typeOf
     other-by {v = Vs j p} x h k = absurd (h (mark x refl))
     other-by {v = Vv j ps} x h k = not-to-scalar (typeOf (Vv j ps)) k refl
@@ -86,9 +67,32 @@ scalar-part true k = refl
 abbrev pub IsScalar : ℕ → Ty → Type 0
 IsScalar k t = (j : Kind) × (k ≡ kindNo j) × (t ≡ Ts j)
 
+-- no rank, no literal
+scalar-fits : (j h : Kind) (p : ℕ) → some? (conv j h p) ≡ some? (convVal (Ts j) (Vs h p))
+unfolding convVal typeOf leaf convLeaf convLits some?
+scalar-fits j h p = go (converts (Ts h) (Ts j)) refl
+  where
+    go : (b : Bool) → converts (Ts h) (Ts j) ≡ b → some? (conv j h p) ≡ some? (cond b (mapSome (Vs j) (conv j h p)) none)
+    go true e = sym (some-map (Vs j) (conv j h p))
+    go false e = rw (conv-no j h p (sym (converts-lit h j) ∙ e))
+
+item-of : {s : List ℕ} {i : ℕ} {h : Kind} {p : ℕ} {l : List Val} → Row s i (Vs h p ∷ l) → ItemAt s i (Literal h p)
+unfolding joined valBytes itemBytes shapedVal goodItem
+item-of {l = l} x = record { rest = joined valBytes l; here = x .here; good = row-shaped x }
+
 module _ {s : List ℕ} {i : ℕ} {v : Val} {l : List Val} (x : Row s i (v ∷ l)) (y : LiteralIs s i v) where
-  pub literal-fits : {k : ℕ} (j : Kind) → k ≡ kindNo j → {r : Bool} → KindConverts (getD s (i + 2) 0) k r → r ≡ converts (typeOf v) (Ts j)
-  literal-fits j n f = f (y .kind) j (y .no) n ∙ ap (λ (t : Ty). converts t (Ts j)) (sym (literal-type x y))
+  item : ItemAt s i (Literal (y .kind) (y .payload))
+  item = item-of (subst (λ (w : Val). Row s i (w ∷ l)) (y .is) x)
+
+  pub literal-room : getD s (i + 1) 0 ≡ ‘s’ → i + (3 + widthOf (getD s (i + 2) 0)) ≤ length s
+  literal-room h = literal-within item h
+
+  pub literal-fits : {k : ℕ} (j : Kind) → k ≡ kindNo j → {r : Bool} → r ≡ some? (literalAs k s i) → r ≡ some? (convVal (Ts j) v)
+  literal-fits j n e = e ∙ (ap some? (literal-of item j n) ∙ (scalar-fits j (y .kind) (y .payload) ∙ ap (λ (w : Val). some? (convVal (Ts j) w)) (sym (y .is))))
+
+pub other-not : {s : List ℕ} {i : ℕ} {v : Val} {l : List Val} → Row s i (v ∷ l) → (getD s (i + 1) 0 ≡ ‘s’ → ⊥) → (k : Kind) → false ≡ some? (convVal (Ts k) v)
+unfolding some?
+other-not {v = v} x h k = rw (conv-not (Ts k) v (other-by x h k))
 
 -- ---- a scalar so far
 
@@ -150,10 +154,6 @@ module _ {s : List ℕ} {flat : Bool} {i : ℕ} {ty : List ℕ} {o : Option Ty} 
   kind-rest r ty′ f = let x = g .left in subst (λ (u : Option Ty). Commons u r ty′) (x .same) (f (x .left) (x .so-far) (x .row) (x .stands))
 
 -- ---- the first argument
-
-module _ {s : List ℕ} {i : ℕ} {v : Val} {l : List Val} (x : Row s i (v ∷ l)) where
-  pub arg-three : i + 3 ≤ length s
-  arg-three = omega (arith, row-has x .bytes .within, least v)
 
 pub literal-first : {flat : Bool} {s : List ℕ} (ty : List ℕ) {v : Val} {l : List Val} (x : Row s 0 (v ∷ l)) (y : LiteralIs s 0 v) {n : ℕ} → Sized (getD s 2 0) litLen mostLit n → 3 ≤ length ty
     → PartIs flat s 0 v l n 0 3 (set (set (set ty 0 ‘T’) 1 ‘s’) 2 (getD s 2 0))

@@ -15,6 +15,8 @@ use Rattle.meaning.specs.Convert.{converts, convVal, meet, commonFrom}
 use Rattle.meaning.specs.Build.{flattened}
 use Rattle.laws.proofs.Sound.{All}
 use Rattle.ty.specs.Stands.{Stands, Ends, Standing}
+use Rattle.ty.specs.Heads.{headOf}
+use Rattle.ty.specs.declared.Head.{Head}
 use Rattle.inst.specs.Counts.{TypeArg}
 use Rattle.conv.specs.Ranked.{Whole, OneType}
 use Rattle.conv.specs.Writers.{Put}
@@ -90,9 +92,6 @@ Goes flat args i ty q r ty′ = (l : List Val) (t : Ty) → Row args i l → Sta
 
 -- ---- the same for literals, by the numbers of their kinds
 
-abbrev pub KindConverts : ℕ → ℕ → Bool → Type 0
-KindConverts from to r = (a b : Kind) → from ≡ kindNo a → to ≡ kindNo b → r ≡ converts (Ts a) (Ts b)
-
 -- n is the number of the kind of the scalar type o
 pub record KindIn (o : Option Ty) (n : ℕ) : Type 0 where
   pub kind : Kind
@@ -149,6 +148,15 @@ pub record GoingTypes (types : List ℕ) (i : ℕ) (ty : List ℕ) (q : ℕ) : T
 abbrev pub GoesTypes : List ℕ → ℕ → List ℕ → ℕ → Common → List ℕ → Type 0
 GoesTypes types i ty q r ty′ = (l : List Ty) (t : Ty) → TypeRow types i l → Stands 15 ty 0 t q → Commons (commonFrom (some t) l) r ty′
 
+-- ---- one argument's type to a type
+
+-- whether a type with the one front converts to a type with the other, where the fronts say it
+abbrev pub HeadConverts : Head → Head → Bool → Type 0
+HeadConverts a b r = (t u : Ty) → a ≡ headOf t → b ≡ headOf u → r ≡ converts t u
+
+abbrev pub ArgConverts : List ℕ → ℕ → List ℕ → Bool → Type 0
+ArgConverts args i ty r = (v : Val) (l : List Val) (t : Ty) → Row args i (v ∷ l) → Whole ty t → r ≡ converts (typeOf v) t
+
 -- ---- all arguments to one type
 
 -- each argument's type converts to t
@@ -172,10 +180,10 @@ pub record AskedFit (args : List ℕ) (from : ℕ) (d : ℕ) (ty : List ℕ) (at
 abbrev pub TypesConvert : List ℕ → ℕ → List ℕ → Bool → Type 0
 TypesConvert args from ty r = (l : List Val) (t : Ty) → Row args from l → Whole ty t → r ≡ allTo t l
 
-abbrev pub ScalarsConvert : List ℕ → ℕ → ℕ → Bool → Type 0
-ScalarsConvert args from k r = (l : List Val) (j : Kind) → k ≡ kindNo j → Row args from l → r ≡ allTo (Ts j) l
+-- "a value converts exactly if its type does and each literal fits": each of them, to the scalar type of the kind whose number k is; to any type
+abbrev pub LiteralsFit : List ℕ → ℕ → ℕ → Bool → Type 0
+LiteralsFit args from k r = (l : List Val) (j : Kind) → k ≡ kindNo j → Row args from l → r ≡ some? (allSome (convVal (Ts j)) l)
 
--- "a value converts exactly if its type does and each literal fits": each of them
 abbrev pub AllConvert : List ℕ → ℕ → ℕ → List ℕ → ℕ → Bool → Type 0
 AllConvert args from d ty at r = (l : List Val) (t : Ty) (e : ℕ) → Row args from l → Stands d ty at t e → r ≡ some? (allSome (convVal t) l)
 

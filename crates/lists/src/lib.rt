@@ -1,6 +1,6 @@
 // Lists of arguments: the source's `convert_all_ty` and `convert_all_to` (conv.rs) on records in a row.
 use call::Step;
-use literal::Rank;
+use ty::Head;
 use ty::Leaf;
 use ty::TypeEnd;
 ghost use mathlib.Core.Path.{_≡_};
@@ -10,12 +10,13 @@ ghost use lib.ListN.{length};
 ghost use Rattle.meaning.specs.Trees.{Ty, Val, typeOf};
 ghost use Rattle.meaning.specs.Convert.{common};
 ghost use Rattle.ty.specs.Stands.{Standing};
+ghost use Rattle.ty.specs.declared.Head.the-variants.{Scalar, Vector, Matrix};
 ghost use Rattle.conv.specs.Ranked.{OneType};
 ghost use Rattle.call.specs.Row.{Row, SomeRow, SomeArg};
 ghost use Rattle.lists.specs.Lists.{brought, PartAt, Parts, Commons, Meeting, Meets, Going, Goes};
 ghost use Rattle.lists.specs.Lists.{TypeRow, SomeTypeRow, SomeType, SkipsType, GoingTypes, GoesTypes};
-ghost use Rattle.lists.specs.Lists.{KindConverts, KindsMeet, GoingScalar, ScalarsConvert};
-ghost use Rattle.lists.specs.Lists.{Asked, AskedFit, TypesConvert, AllConvert, AllRoom, AllPut};
+ghost use Rattle.lists.specs.Lists.{KindsMeet, GoingScalar, LiteralsFit};
+ghost use Rattle.lists.specs.Lists.{HeadConverts, ArgConverts, Asked, AskedFit, TypesConvert, AllConvert, AllRoom, AllPut};
 
 // The common type, whose record was written and ends there; or there is none.
 pub enum Common {
@@ -122,24 +123,14 @@ fn common_from(args: &[u8], i: usize, flat: bool, ty: &mut [u8], q: usize) -> Co
 
 // ---- the same for literals, by their kinds
 
-// Whether a literal of the one kind converts to the other.
-fn kind_converts(from: u8, to: u8) -> bool
-    ensures { λ r. ⌜ KindConverts from to r ⌝ }
-{
-    match literal::kind_rank(from, to) {
-        Rank::At(_) => true,
-        Rank::Never => false,
-    }
-}
-
 // The kind so far and the next one, as their types meet.
 fn meet_kinds(first: u8, next: u8) -> Met
     ensures { λ r. ⌜ KindsMeet first next r ⌝ }
 {
-    if kind_converts(first, next) {
+    if conv::kind_converts(first, next) {
         return Met::Both(next);
     }
-    if kind_converts(next, first) {
+    if conv::kind_converts(next, first) {
         return Met::Both(first);
     }
     Met::Neither
@@ -262,56 +253,122 @@ pub fn common_type(types: &[u8], ty: &mut [u8]) -> Common
     common_types_from(types, e, ty, q)
 }
 
+// ---- one argument's type to a type
+
+// Whether the scalar type of the kind j converts to a type of that front: to a scalar of a kind to which j converts.
+fn scalar_converts(j: u8, to: Head) -> bool
+    ensures { λ r. ⌜ HeadConverts (Scalar j) to r ⌝ }
+{
+    match to {
+        Head::Scalar(k) => conv::kind_converts(j, k),
+        Head::Vector(_, _) => false,
+        Head::Matrix(_, _, _) => false,
+        Head::Array(_) => false,
+        Head::Struct(_, _) => false,
+    }
+}
+
+// The same of a vector: to one of equal length.
+fn vector_converts(n: u8, j: u8, to: Head) -> bool
+    ensures { λ r. ⌜ HeadConverts (Vector n j) to r ⌝ }
+{
+    match to {
+        Head::Scalar(_) => false,
+        Head::Vector(m, k) => {
+            if m != n {
+                return false;
+            }
+            conv::kind_converts(j, k)
+        }
+        Head::Matrix(_, _, _) => false,
+        Head::Array(_) => false,
+        Head::Struct(_, _) => false,
+    }
+}
+
+// The same of a matrix: to one of equal shape.
+fn matrix_converts(c: u8, r: u8, j: u8, to: Head) -> bool
+    ensures { λ b. ⌜ HeadConverts (Matrix c r j) to b ⌝ }
+{
+    match to {
+        Head::Scalar(_) => false,
+        Head::Vector(_, _) => false,
+        Head::Matrix(a, b, k) => {
+            if a != c {
+                return false;
+            }
+            if b != r {
+                return false;
+            }
+            conv::kind_converts(j, k)
+        }
+        Head::Array(_) => false,
+        Head::Struct(_, _) => false,
+    }
+}
+
+// Whether the type of the argument at i, whatever that is, converts to the type that `ty` is.
+fn other_converts(args: &[u8], i: usize, ty: &[u8]) -> bool
+    requires { ⌜ SomeArg (now args) i ⌝ }
+    requires { ⌜ OneType (now ty) ⌝ }
+    ensures { λ r. ⌜ ArgConverts (now (args .entry)) i (now (ty .entry)) r ⌝ }
+{
+    let mut buf = [0u8; 4096];
+    let step = call::next_type(args, i, &mut buf);
+    let q = step.ty;
+    conv::type_converts(&buf[..q], ty)
+}
+
+// The same. An array's type and a struct's are derived; any other is seen at its front.
+pub fn arg_converts(args: &[u8], i: usize, ty: &[u8]) -> bool
+    requires { ⌜ SomeArg (now args) i ⌝ }
+    requires { ⌜ OneType (now ty) ⌝ }
+    ensures { λ r. ⌜ ArgConverts (now (args .entry)) i (now (ty .entry)) r ⌝ }
+{
+    match call::head_of(args, i) {
+        Head::Scalar(j) => scalar_converts(j, ty::head_at(ty, 0, 15)),
+        Head::Vector(n, j) => vector_converts(n, j, ty::head_at(ty, 0, 15)),
+        Head::Matrix(c, r, j) => matrix_converts(c, r, j, ty::head_at(ty, 0, 15)),
+        Head::Array(_) => other_converts(args, i, ty),
+        Head::Struct(_, _) => other_converts(args, i, ty),
+    }
+}
+
 // ---- all arguments to one type
 
-// Whether the type of each argument from `from` on converts to the type that `ty` is, whatever that is.
+// Whether the type of each argument from `from` on converts to the type that `ty` is.
 fn others_convert(args: &[u8], from: usize, ty: &[u8]) -> bool
     requires { ⌜ SomeRow (now args) from ⌝ }
     requires { ⌜ OneType (now ty) ⌝ }
     ensures { λ r. ⌜ TypesConvert (now (args .entry)) from (now (ty .entry)) r ⌝ }
 {
-    let mut buf = [0u8; 4096];
     let mut i = from;
     while i < args.len() {
-        let step = call::next_type(args, i, &mut buf);
-        let q = step.ty;
-        if !conv::type_converts(&buf[..q], ty) {
+        if !arg_converts(args, i, ty) {
             return false;
         }
-        i = step.end;
+        i = call::next_arg(args, i);
     }
     true
 }
 
-// Whether the type of each argument from `from` on converts to the scalar type of the kind k. No other type than a scalar does.
-fn literals_convert(args: &[u8], from: usize, k: u8) -> bool
+// Whether each argument from `from` on is a literal that converts to the kind k: one scan decides both the types, since no other type than a scalar converts to
+// a scalar, and the literals.
+fn literals_fit(args: &[u8], from: usize, k: u8) -> bool
     requires { ⌜ SomeRow (now args) from ⌝ }
-    ensures { λ r. ⌜ ScalarsConvert (now (args .entry)) from k r ⌝ }
+    ensures { λ r. ⌜ LiteralsFit (now (args .entry)) from k r ⌝ }
 {
     let mut i = from;
     while i < args.len() {
         if args[i + 1] != b's' {
             return false;
         }
-        let j = args[i + 2];
-        if !kind_converts(j, k) {
+        if !conv::literal_fits(args, i, k) {
             return false;
         }
-        i = i + ty::literal_len(j);
+        i = i + ty::literal_len(args[i + 2]);
     }
     true
-}
-
-// Whether the type of each argument from `from` on converts to the type that `ty` is.
-fn types_convert(args: &[u8], from: usize, ty: &[u8]) -> bool
-    requires { ⌜ SomeRow (now args) from ⌝ }
-    requires { ⌜ OneType (now ty) ⌝ }
-    ensures { λ r. ⌜ TypesConvert (now (args .entry)) from (now (ty .entry)) r ⌝ }
-{
-    if ty[1] != b's' {
-        return others_convert(args, from, ty);
-    }
-    literals_convert(args, from, ty[2])
 }
 
 // Whether each argument, whose type converts to the one whose record stands at `at`, converts too: one scan over the literals of all. Arguments with a struct in
@@ -335,7 +392,10 @@ pub fn all_convert(args: &[u8], from: usize, ty: &[u8], at: usize, depth: u8) ->
 {
     match ty::type_end(ty, at, depth) {
         TypeEnd::At(e) => {
-            if !types_convert(args, from, &ty[at..e]) {
+            if ty[at + 1] == b's' {
+                return literals_fit(args, from, ty[at + 2]);
+            }
+            if !others_convert(args, from, &ty[at..e]) {
                 return false;
             }
             all_fit(args, from, ty, at, depth)

@@ -1,110 +1,99 @@
 -- What the tests of the code tell of the rules for one literal.
-use mathlib.Core.Path.{_≡_, refl, sym, _∙_}
+use mathlib.Core.Path.{_≡_, refl, sym, ap, _∙_}
+use mathlib.Core.Logic.{_⊎_, inl, inr}
 use mathlib.Core.Option.{Option, none, some}
-use mathlib.Core.Bool.{Bool, true, false, not, cond}
-use Prim.Native.Nat.{ℕ, zero, suc}
+use mathlib.Core.Bool.{Bool, true, false, not, _&&_, cond}
+use Prim.Native.Nat.{ℕ, zero, suc, _+_, _-_, _*_, _^_, _≤_, _<_}
+use native.Mathlib.Nat.{le-trans, le-of-eq, lt-of-lt-of-le, mul-le-mul-right}
 use native.Mathlib.Omega.{arith}
-use lib.Dec.{T, eqb}
-use borrow.Author.Tests.{eq-eqb, ne-eqb}
-use Rattle.meaning.specs.Kinds.{Kind, bool, aint, afloat, i32, u32, f32, f16, kindNo, kindOf, sameKind, isAbstract, kindRank, fromSame, fromAint, fromAfloat}
-use Rattle.meaning.specs.Floats.{nan}
-use Rattle.meaning.specs.Scalars.{Stage, number, conv, some?}
+use lib.Dec.{ltb, eqb}
+use lib.Pow.{pow-pos, pow-mono, pow-add, shl-lt}
+use borrow.Author.Tests.{lt-ltb, le-ltb, ne-eqb}
+use Rattle.meaning.specs.Kinds.{Kind, aint, payloads, kindNo, kindOf, sameKind, isAbstract, kindRank, fromSame}
+use Rattle.meaning.specs.Floats.{integer, bits, finite}
+use Rattle.meaning.specs.Scalars.{Stage, twos, number, conv, convFits, convBits, some?}
 use Rattle.meaning.specs.Answers.{ok, no, need, _>>_}
 use Rattle.meaning.specs.Build.{ctorLit}
 use Rattle.meaning.specs.Entries.{stageOf}
-use Rattle.laws.proofs.AgreeLit.{kind-back, same-kind}
+use Rattle.laws.proofs.Digits.{le-or-lt, Format}
+use Rattle.laws.proofs.Rounding.{threshold, right}
+use Rattle.laws.proofs.AgreeLit.{kind-back}
 use Rattle.laws.proofs.Sound.{kind-no}
 use Rattle.kind.specs.Ends.{ofKind, known}
 use Rattle.kind.proofs.Numbers.{Others, over}
-use Rattle.literal.specs.Told.{ofKinds, rankOf, rankBetween, convertedOf, convBetween, fitted, numberTo, numberOf, tried, ctorFrom}
-use Rattle.literal.specs.declared.Rank.the-variants as rank
+use Rattle.literal.specs.Told.{convertedOf, convBetween, tried, ctorFrom}
 use Rattle.literal.specs.declared.Converted.the-variants as converted
 
 -- ---- ranks
 
--- "a type converts to itself": a number that is the kind's own, or another kind's, or none's
-same : (j : Kind) (to : ℕ) (o : Option Kind) → kindOf to ≡ o → cond (eqb (kindNo j) to) (some 0) none ≡ ofKind none (fromSame j) o
-unfolding ofKind fromSame sameKind
-same j to none e =
-    rw (ne-eqb (kindNo j) to (λ h.
-    let f : kindOf to ≡ some j = rw (sym h) (kind-back j) in
+-- what a kind has for itself alone, by a number that is its own, or another kind's, or none's
+same : {A : Type 0} (j : Kind) (x : A) (f : Kind → Option A) → ((k : Kind) → cond (sameKind j k) (some x) none ≡ f k) →
+    (to : ℕ) (o : Option Kind) → kindOf to ≡ o → cond (eqb (kindNo j) to) (some x) none ≡ ofKind none f o
+unfolding ofKind sameKind
+same j x f h to none e =
+    rw (ne-eqb (kindNo j) to (λ g.
+    let b : kindOf to ≡ some j = rw (sym g) (kind-back j) in
     let z : _≡_ {A = ℕ} 0 1 = cc in
     omega arith))
-same j to (some k) e = rw (kind-no to k e)
+same j x f h to (some k) e = rw (kind-no to k e) (h k)
 
+-- "a type converts to itself (rank 0)"
 pub of-same : (j : Kind) (to : ℕ) → cond (eqb (kindNo j) to) (some 0) none ≡ ofKind none (fromSame j) (kindOf to)
-of-same j to = same j to (kindOf to) refl
+unfolding fromSame
+of-same j to = same j 0 (fromSame j) (λ k. refl) to (kindOf to) refl
 
--- ---- conversion between kinds, by what `kind_rank` answers
+-- ---- conversion between kinds
 
--- a kind that stays
-stays : (p n : ℕ) (a : Option Kind) → rankOf (ofKinds none kindRank a a) ≡ rank.At n → ofKinds none (λ j k. conv k j p) a a ≡ some p
-unfolding rankOf ofKind conv sameKind
-stays p n none e = absurd (let z : _≡_ {A = ℕ} 0 1 = cc in omega arith)
-stays p n (some k) e = rw (eq-eqb (kindNo k) (kindNo k) refl)
+-- a kind that has a rank to itself alone
+abbrev pub Alone : Kind → Type 0
+Alone j = (k : Kind) → kindRank j k ≡ fromSame j k
 
-pub kept : (from to p n : ℕ) → from ≡ to → rankOf (rankBetween from to) ≡ rank.At n → convBetween to from p ≡ some p
-unfolding rankBetween convBetween
-kept from to p n d e = rw d (stays p n (kindOf to) (rw d at e))
+only-same : (b c : Bool) (p q : ℕ) → cond b (some p) none ≡ cond b (some p) (cond (some? {A = ℕ} (cond b (some 0) none) && c) (some q) none)
+unfolding some?
+only-same true c p q = refl
+only-same false c p q = refl
 
--- a kind that changes to one that it has a rank to
-has : (o : Option ℕ) (n : ℕ) → rankOf o ≡ rank.At n → some? o ≡ true
-unfolding rankOf some?
-has none n e = absurd (let z : _≡_ {A = ℕ} 0 1 = cc in omega arith)
-has (some r) n e = refl
+-- a payload is answered where the test says so
+pub fits-where : {r : Bool} (b : Bool) (q : ℕ) → r ≡ b → r ≡ some? (cond b (some q) none)
+unfolding some?
+fits-where true q e = e
+fits-where false q e = e
 
-changes : (p n : ℕ) (a b : Option Kind) → ((j k : Kind) → a ≡ some j → b ≡ some k → sameKind j k ≡ false) → rankOf (ofKinds none kindRank a b) ≡ rank.At n →
-    ofKinds none (λ j k. conv k j p) a b ≡ ofKind none (λ k. fitted k (ofKind nan (λ j. number j p) a)) b
-unfolding rankOf ofKind conv fitted
-changes p n none b d e = absurd (let z : _≡_ {A = ℕ} 0 1 = cc in omega arith)
-changes p n (some j) none d e = absurd (let z : _≡_ {A = ℕ} 0 1 = cc in omega arith)
-changes p n (some j) (some k) d e = rw (d j k refl refl, has (kindRank j k) n e)
+-- the two answers for such a kind, by its number
+module _ (j : Kind) (h : Alone j) (to from p : ℕ) (e : from ≡ kindNo j) where
+  own : (k : Kind) → cond (sameKind j k) (some p) none ≡ conv k j p
+  unfolding conv fromSame
+  own k = rw (h k) (only-same (sameKind j k) (convFits k (number j p)) p (convBits k (number j p)))
 
-apart : (m n : ℕ) → (m ≡ n → ⊥) → (j k : Kind) → kindOf m ≡ some j → kindOf n ≡ some k → sameKind j k ≡ false
-unfolding sameKind
-apart m n d j k e f = ne-eqb (kindNo j) (kindNo k) (λ h. d (kind-no m j e ∙ h ∙ sym (kind-no n k f)))
+  pub kept : cond (eqb from to) (some p) none ≡ convBetween to from p
+  unfolding convBetween ofKind
+  kept = rw (e, kind-back j) (same j p (λ k. conv k j p) own to (kindOf to) refl)
 
-pub changed : (from to p n : ℕ) → (from ≡ to → ⊥) → rankOf (rankBetween from to) ≡ rank.At n → convBetween to from p ≡ numberTo to (numberOf from p)
-unfolding rankBetween convBetween numberTo numberOf
-changed from to p n d e = changes p n (kindOf from) (kindOf to) (apart from to d) e
+  pub kept-fits : eqb from to ≡ some? (convBetween to from p)
+  kept-fits = fits-where (eqb from to) p refl ∙ ap some? kept
 
--- a kind that has no rank to the other
-self-rank : (k : Kind) → kindRank k k ≡ some 0
-unfolding kindRank fromSame fromAint fromAfloat sameKind kindNo
-self-rank bool = refl
-self-rank aint = refl
-self-rank afloat = refl
-self-rank i32 = refl
-self-rank u32 = refl
-self-rank f32 = refl
-self-rank f16 = refl
+-- every whole number of 64 bits is finite in a format whose exponents reach past 64
+module _ (p emax : ℕ) (F : Format p emax) (P : (2 ≤ p) × (65 ≤ emax)) where
+  below : (m : ℕ) → m ≤ 2 ^ 64 → m * 2 ^ 1074 < threshold p emax
+  unfolding threshold
+  below m h =
+      let j = 1074 + emax - p in
+      let l : m < 2 ^ 65 = omega arith in
+      let a : 65 + 1074 ≤ p + j = omega arith in
+      let b : 2 ^ p ≤ 2 ^ (p + 1) - 1 = omega (arith, pow-add 2 p 1, pow-pos p) in
+      lt-of-lt-of-le (shl-lt 65 1074 l) (le-trans (pow-mono a) (le-trans (le-of-eq (pow-add 2 p j)) (mul-le-mul-right (2 ^ j) b)))
 
-unranked : (j k : Kind) → rankOf (kindRank j k) ≡ rank.Never → T (sameKind j k) → ⊥
-unfolding rankOf
-unranked j k e t =
-    let f : kindRank j k ≡ some 0 = rw (same-kind j k t) (self-rank k) in
-    let g : rank.At 0 ≡ rank.Never = rw f at e in
-    let z : _≡_ {A = ℕ} 0 1 = cc in
-    omega arith
+  whole : (s : Bool) (m : ℕ) → m ≤ 2 ^ 64 → true ≡ finite p emax (bits p emax (integer s m))
+  unfolding integer
+  whole s m h = sym (right p emax F (P .0) (omega arith) .below-finite s (m * 2 ^ 1074) (below m h))
 
-missing : (o : Option ℕ) → rankOf o ≡ rank.Never → some? o ≡ false
-unfolding rankOf some?
-missing none e = refl
-missing (some n) e = absurd (let z : _≡_ {A = ℕ} 0 1 = cc in omega arith)
-
-neither : (b : Bool) (p : ℕ) → (T b → ⊥) → cond b (some p) none ≡ none
-neither true p h = absurd (h tt)
-neither false p h = refl
-
-refuses : (p : ℕ) (a b : Option Kind) → rankOf (ofKinds none kindRank a b) ≡ rank.Never → ofKinds none (λ j k. conv k j p) a b ≡ none
-unfolding ofKind conv
-refuses p none b e = refl
-refuses p (some j) none e = refl
-refuses p (some j) (some k) e = rw (missing (kindRank j k) e) (neither (sameKind j k) p (unranked j k e))
-
-pub refused : (from to p : ℕ) → rankOf (rankBetween from to) ≡ rank.Never → convBetween to from p ≡ none
-unfolding rankBetween convBetween
-refused from to p e = refuses p (kindOf from) (kindOf to) e
+  pub aint-finite : (b : ℕ) → true ≡ finite p emax (bits p emax (number aint b))
+  unfolding number twos payloads
+  aint-finite b = go (le-or-lt (2 ^ 63) b)
+    where
+      go : (2 ^ 63 ≤ b) ⊎ (b < 2 ^ 63) → true ≡ finite p emax (bits p emax (cond (ltb b (2 ^ 63)) (integer false b) (integer true (2 ^ 64 - b))))
+      go (inl h) = rw (le-ltb b (2 ^ 63) h) (whole true (2 ^ 64 - b) (omega arith))
+      go (inr h) = rw (lt-ltb b (2 ^ 63) h) (whole false b (omega arith))
 
 -- ---- the refusals of the constructors
 

@@ -6,7 +6,7 @@ use Prim.Native.Nat.{ℕ, _^_, _≤_, _<_}
 use lib.Dec.{eqb}
 use Rattle.meaning.specs.Kinds.{Kind, f32, kindNo, kindOf, kindRank, isAbstract}
 use Rattle.meaning.specs.Floats.{binary32, Num, nan, value, bits}
-use Rattle.meaning.specs.Scalars.{Stage, number, within, toward, conv, convFits, convBits, checked}
+use Rattle.meaning.specs.Scalars.{Stage, number, within, toward, conv, checked}
 use Rattle.meaning.specs.Answers.{Result, ok, no, orNo, need, _>>=_, _>>_}
 use Rattle.meaning.specs.Build.{ctorLit}
 use Rattle.meaning.specs.Entries.{stageOf}
@@ -53,17 +53,13 @@ unfoldable pub convertedOf : Option ℕ → Converted
 convertedOf none = converted.Unfit
 convertedOf (some p) = converted.To p
 
+-- the literal p of the kind j as one of another, by that one's number
+unfoldable pub convFrom : Kind → ℕ → ℕ → Option ℕ
+convFrom j to p = ofKind none (λ k. conv k j p) (kindOf to)
+
 -- the literal p of one kind as one of another, by their numbers; a number that is no kind's takes and gives nothing
 unfoldable pub convBetween : ℕ → ℕ → ℕ → Option ℕ
 convBetween to from p = ofKinds none (λ j k. conv k j p) (kindOf from) (kindOf to)
-
--- a number to a kind, if it fits
-unfoldable pub fitted : Kind → Num → Option ℕ
-fitted k x = cond (convFits k x) (some (convBits k x)) none
-
--- the same to a kind by its number
-unfoldable pub numberTo : ℕ → Num → Option ℕ
-numberTo to x = ofKind none (λ k. fitted k x) (kindOf to)
 
 -- ---- the number of a literal, by its kind's number; a number that is no kind's has a NaN
 

@@ -6,14 +6,14 @@ ghost use mathlib.Core.Option.{none, some};
 ghost use mathlib.Core.Bool.{cond, not, _&&_};
 ghost use Prim.Native.Nat.{_+_, _≤_, _<_, _^_};
 ghost use lib.Dec.{eqb};
-ghost use Rattle.meaning.specs.Kinds.{bool, aint, i32, u32, f32, f16, kindOf, fromAint, fromAfloat};
+ghost use Rattle.meaning.specs.Kinds.{bool, aint, afloat, i32, u32, f32, f16, kindOf, fromAint, fromAfloat};
 ghost use Rattle.meaning.specs.Floats.{binary16, binary32, bits, outside};
 ghost use Rattle.meaning.specs.Floats as Floats;
-ghost use Rattle.meaning.specs.Scalars.{number, within, toward, nonzero};
+ghost use Rattle.meaning.specs.Scalars.{number, within, toward, nonzero, some?};
 ghost use Rattle.laws.proofs.Digits.{Format};
 ghost use Rattle.kind.specs.Ends.{ofKind};
 ghost use Rattle.float.specs.Taken.{Stands, Layout, meaning, exponent};
-ghost use Rattle.literal.specs.Told.{rankOf, rankBetween, convertedOf, convBetween, numberOf, numberTo, Short, inRange, heldIn, paper, tried, before, Always, When, noCtor, WhenTo, ctorBetween};
+ghost use Rattle.literal.specs.Told.{rankOf, rankBetween, convertedOf, convFrom, convBetween, numberOf, Short, inRange, heldIn, paper, tried, before, Always, When, noCtor, WhenTo, ctorBetween};
 
 // The rank of a conversion between two kinds, if there is one.
 pub enum Rank {
@@ -185,37 +185,122 @@ fn nearest(p: u64, emax: u64, w: u64, v: Parts) -> Converted
     }
 }
 
-// "Stage and kind choices: matches": the rule for each kind that something converts to, "an integer within the target's range, a float result finite". Nothing
-// else converts to Bool and AbstractInt.
-fn convert_number(to: u8, v: Parts) -> Converted
-    requires { ⌜ exponent v < 2100 ⌝ }
-    ensures { λ r. ⌜ r ≡ convertedOf (numberTo to (meaning v)) ⌝ }
+// An AbstractInt as a literal of another kind: "AbstractInt to I32, U32, AbstractFloat, F32, F16", "an integer within the target's range, a float result
+// finite".
+fn convert_abstract_int(to: u8, bits: u64) -> Converted
+    ensures { λ r. ⌜ r ≡ convertedOf (convFrom aint to bits) ⌝ }
 {
     match to {
         Scalar::BOOL => Converted::Unfit,
-        Scalar::ABSTRACT_INT => Converted::Unfit,
-        Scalar::ABSTRACT_FLOAT => nearest(53, 1023, 11, v),
-        Scalar::I32 => integer(to, v),
-        Scalar::U32 => integer(to, v),
-        Scalar::F32 => nearest(24, 127, 8, v),
-        Scalar::F16 => nearest(11, 15, 5, v),
+        Scalar::ABSTRACT_INT => Converted::To(bits),
+        Scalar::ABSTRACT_FLOAT => nearest(53, 1023, 11, abstract_int_parts(bits)),
+        Scalar::I32 => integer(Scalar::I32, abstract_int_parts(bits)),
+        Scalar::U32 => integer(Scalar::U32, abstract_int_parts(bits)),
+        Scalar::F32 => nearest(24, 127, 8, abstract_int_parts(bits)),
+        Scalar::F16 => nearest(11, 15, 5, abstract_int_parts(bits)),
         _ => Converted::Unfit,
     }
 }
 
-// A literal of one kind as a literal of another (`convert_to` of conv.rs); "an unchanged kind keeps its bits".
+// The same of an AbstractFloat: "AbstractFloat to F32, F16".
+fn convert_abstract_float(to: u8, bits: u64) -> Converted
+    ensures { λ r. ⌜ r ≡ convertedOf (convFrom afloat to bits) ⌝ }
+{
+    match to {
+        Scalar::BOOL => Converted::Unfit,
+        Scalar::ABSTRACT_INT => Converted::Unfit,
+        Scalar::ABSTRACT_FLOAT => Converted::To(bits),
+        Scalar::I32 => Converted::Unfit,
+        Scalar::U32 => Converted::Unfit,
+        Scalar::F32 => nearest(24, 127, 8, float::f64_parts(bits)),
+        Scalar::F16 => nearest(11, 15, 5, float::f64_parts(bits)),
+        _ => Converted::Unfit,
+    }
+}
+
+// Any other kind converts to itself alone.
+fn convert_same(to: u8, from: u8, bits: u64) -> Converted
+    ensures { λ r. ⌜ r ≡ convertedOf (cond (eqb from to) (some bits) none) ⌝ }
+{
+    if from == to {
+        Converted::To(bits)
+    } else {
+        Converted::Unfit
+    }
+}
+
+// A literal of one kind as a literal of another (`convert_to` of conv.rs); "an unchanged kind keeps its bits". "Stage and kind choices: matches": the kind that
+// the literal has picks the rule, and in it the target's kind. No rank is asked for: each rule answers for the kinds that have none.
 pub fn convert_literal(to: u8, from: u8, bits: u64) -> Converted
     ensures { λ r. ⌜ r ≡ convertedOf (convBetween to from bits) ⌝ }
 {
-    match kind_rank(from, to) {
-        Rank::At(_) => {
-            if from == to {
-                Converted::To(bits)
-            } else {
-                convert_number(to, parts_of(from, bits))
-            }
-        }
-        Rank::Never => Converted::Unfit,
+    match from {
+        Scalar::BOOL => convert_same(to, from, bits),
+        Scalar::ABSTRACT_INT => convert_abstract_int(to, bits),
+        Scalar::ABSTRACT_FLOAT => convert_abstract_float(to, bits),
+        Scalar::I32 => convert_same(to, from, bits),
+        Scalar::U32 => convert_same(to, from, bits),
+        Scalar::F32 => convert_same(to, from, bits),
+        Scalar::F16 => convert_same(to, from, bits),
+        _ => Converted::Unfit,
+    }
+}
+
+// ---- whether a literal converts, told without making the payload
+
+// Whether a whole number lies within the range of a kind.
+fn integer_fits(to: u8, v: Parts) -> bool
+    ensures { λ r. ⌜ r ≡ inRange to (meaning v) ⌝ }
+{
+    let k = Scalar { kind: to };
+    float::within(k.low_end(), k.high_end(), v)
+}
+
+// Of an AbstractInt. As an AbstractFloat and an F32 every whole number of 64 bits is finite.
+fn abstract_int_fits(to: u8, bits: u64) -> bool
+    ensures { λ r. ⌜ r ≡ some? (convFrom aint to bits) ⌝ }
+{
+    match to {
+        Scalar::BOOL => false,
+        Scalar::ABSTRACT_INT => true,
+        Scalar::ABSTRACT_FLOAT => true,
+        Scalar::I32 => integer_fits(Scalar::I32, abstract_int_parts(bits)),
+        Scalar::U32 => integer_fits(Scalar::U32, abstract_int_parts(bits)),
+        Scalar::F32 => true,
+        Scalar::F16 => float::rounds_finite(11, 15, abstract_int_parts(bits)),
+        _ => false,
+    }
+}
+
+// Of an AbstractFloat.
+fn abstract_float_fits(to: u8, bits: u64) -> bool
+    ensures { λ r. ⌜ r ≡ some? (convFrom afloat to bits) ⌝ }
+{
+    match to {
+        Scalar::BOOL => false,
+        Scalar::ABSTRACT_INT => false,
+        Scalar::ABSTRACT_FLOAT => true,
+        Scalar::I32 => false,
+        Scalar::U32 => false,
+        Scalar::F32 => float::rounds_finite(24, 127, float::f64_parts(bits)),
+        Scalar::F16 => float::rounds_finite(11, 15, float::f64_parts(bits)),
+        _ => false,
+    }
+}
+
+// Whether a literal of one kind converts to another: what `convert_literal` decides, by the same matches.
+pub fn literal_fits(to: u8, from: u8, bits: u64) -> bool
+    ensures { λ r. ⌜ r ≡ some? (convBetween to from bits) ⌝ }
+{
+    match from {
+        Scalar::BOOL => from == to,
+        Scalar::ABSTRACT_INT => abstract_int_fits(to, bits),
+        Scalar::ABSTRACT_FLOAT => abstract_float_fits(to, bits),
+        Scalar::I32 => from == to,
+        Scalar::U32 => from == to,
+        Scalar::F32 => from == to,
+        Scalar::F16 => from == to,
+        _ => false,
     }
 }
 

@@ -112,6 +112,14 @@ goes-to j t h = go (toInner j t) refl h
         let d = down j t u e in
         record { into = e ∙ ap some (sym (d .is)); down = record { kind = d .kind; at = d .at; is = refl; ranks = d .ranks } }
 
+-- by the rank of the kind one level down
+module _ {k : ℕ} (j : Kind) (n : k ≡ kindNo j) (t : Ty) {i : ℕ} (h : inner-kind.Kind i ≡ innerOf (litKind (inner t))) where
+  pub rank-no : Never ≡ rankOf (rankBetween i k) → toInner j t ≡ none
+  rank-no q = goes-no j t (down-no j n t h q)
+
+  pub rank-to : {m : ℕ} → At m ≡ rankOf (rankBetween i k) → GoesTo j t
+  rank-to q = goes-to j t (down-yes j n t h q)
+
 -- ---- "float, AbstractInt becoming AbstractFloat"
 
 pub float-int : {k : ℕ} → k ≡ 1 → inner-kind.Kind 2 ≡ floatOf k

@@ -1,17 +1,18 @@
 -- The arguments once they convert: to the type that the first one's gives, or to the kind that the common type gives.
 use mathlib.Core.Path.{_≡_, refl, sym, ap, _∙_, subst}
 use mathlib.Core.Option.{Option, none, some}
-use mathlib.Core.List.{List, _∷_, map}
+use mathlib.Core.List.{List, [], _∷_, map, append-nil}
 use mathlib.Core.Bool.{Bool, true, false}
 use Prim.Native.Nat.{ℕ, _-_}
 use native.Mathlib.Omega.{arith}
 use borrow.Author.Tests.{ne-eqb}
 use lib.Dec.{T}
 use lib.ListN.{length, replicate, set}
+use lib.Seq.{drop-length}
 use Rattle.meaning.specs.Kinds.{Kind, kindNo, kindOf, isFloat, sameKind}
 use Rattle.meaning.specs.Scalars.{Const, some?}
-use Rattle.meaning.specs.Trees.{Ty, Ts, Tv, Tm, Ta, Tu, Val, Vm, typeOf, valsOf, setLeaf, inner}
-use Rattle.meaning.specs.Records.{valBytes, joined, every, shapedVals}
+use Rattle.meaning.specs.Trees.{Ty, Ts, Tv, Tm, Ta, Tu, Val, Vm, typeOf, valsOf, depth, setLeaf, inner}
+use Rattle.meaning.specs.Records.{‘T’, ‘s’, ‘v’, tyBytes, valBytes, joined, every, shapedTy, shapedVals}
 use Rattle.meaning.specs.Answers.{ok, no, _>>_, allSome, mapSome}
 use Rattle.meaning.specs.Convert.{converts, convVal, convLits, common, floatKind}
 use Rattle.meaning.specs.Build.{matShape, payloadsOfAll, toInner, litKind, matParts, qmParts}
@@ -24,21 +25,26 @@ use Rattle.laws.proofs.AgreeMat.{Down, leaf-inner, down-leaf}
 use Rattle.laws.proofs.AgreeQm.{float-kind, lits-list}
 use Rattle.laws.proofs.Sound.{some-inj, no-some, kind-no}
 use Rattle.kind.specs.Ends.{ofKind, tested}
-use Rattle.ty.specs.Stands.{Standing}
+use Rattle.ty.specs.Stands.{Stands, Standing}
 use Rattle.ty.specs.Fronts.{floatNumber}
+use Rattle.ty.proofs.Heads.{scalar-is, vector-is}
 use Rattle.conv.specs.Items.{SomeItems, Fits}
 use Rattle.conv.specs.Values.{plains}
 use Rattle.conv.proofs.Ranks.{KindIs}
 use Rattle.conv.proofs.Values.{Scan, list-scan, scan-items, scan-fits, some-map}
-use Rattle.call.specs.Row.{Row, TypeIs}
-use Rattle.call.proofs.Rows.{row-bytes, each-ok, each-shaped}
+use Rattle.call.specs.Row.{Row}
+use Rattle.call.specs.Told.{Builds}
+use Rattle.call.specs.declared.Written.{Written}
+use Rattle.call.proofs.Answers.{builds-as}
+use Rattle.call.proofs.Rows.{row-type, row-deep, row-bytes, each-ok, each-shaped}
 use Rattle.lists.specs.Lists.{allTo, Asked}
 use Rattle.lists.proofs.Converts.{to-types, some-to, all-lits, all-plain}
 use Rattle.lists.proofs.Laws.{all-shaped, all-typed}
 use Rattle.matrix.specs.declared.Inner.{Inner}
 use Rattle.matrix.specs.declared.Inner.the-variants as inner-kind
 use Rattle.matrix.specs.Shapes.{innerOf, Parts}
-use Rattle.matrix.specs.Asked.{To, matTo, floatOf, Typed, qmTo}
+use Rattle.matrix.specs.Asked.{ScalarFirst, VectorFirst, To, SomeTo, matTo, ToMade, floatOf, Typed, qmTo}
+use Rattle.matrix.proofs.Shapes.{scalar-inner, vector-inner}
 use Rattle.matrix.proofs.Downs.{kind-some, kind-none, lit-is, GoesTo, set-stands, float-is}
 
 -- ---- what the values converted are
@@ -105,21 +111,51 @@ module _ (c r : ℕ) (j : Kind) (v : Val) (l : List Val) where
   unfolding matParts
   mat-no h = rw h
 
-  pub mat-goes : GoesTo j (typeOf v) → matParts c r j v l ≡ matTo c r j (setLeaf j (typeOf v)) (v ∷ l)
+  mat-goes : GoesTo j (typeOf v) → matParts c r j v l ≡ matTo c r j (setLeaf j (typeOf v)) (v ∷ l)
   unfolding matParts matTo
   mat-goes g = rw (g .into)
 
-pub mat-to : {k : ℕ} {s : List ℕ} {count e q : ℕ} {ty : List ℕ} {v : Val} {l : List Val} (j : Kind) → k ≡ kindNo j → T (floatNumber k) → Row s 0 (v ∷ l) → count ≡ length (v ∷ l)
-    → TypeIs s 0 v l e q ty → GoesTo j (typeOf v) → To k (set ty (q - 1) k) s count j (setLeaf j (typeOf v)) (v ∷ l)
-mat-to {q = q} {v = v} j n f w h t g =
-    record {
-      no = n;
-      end = q;
-      stands = set-stands j (t .stands) (leaf-inner (typeOf v) (g .down .kind) (g .down .at)) n (float-is j n f);
-      bottom = down-leaf j (typeOf v) (setLeaf j (typeOf v)) (g .down);
-      row = w;
-      size = h;
-    }
+-- the record of a type that goes down, with k at its end
+pub type-set : {k : ℕ} (j : Kind) → k ≡ kindNo j → T (floatNumber k) → {t : Ty} → GoesTo j t → {ty : List ℕ} {q : ℕ} → Stands 15 ty 0 t q → Stands 15 (set ty (q - 1) k) 0 (setLeaf j t) q
+type-set j n f {t} g w = set-stands j w (leaf-inner t (g .down .kind) (g .down .at)) n (float-is j n f)
+
+module _ {s : List ℕ} {v : Val} {l : List Val} (w : Row s 0 (v ∷ l)) where
+  -- the first argument's type, in its own record
+  own : Stands 15 (tyBytes (typeOf v)) 0 (typeOf v) (length (tyBytes (typeOf v)))
+  own =
+      let b = tyBytes (typeOf v) in
+      record { here = rw (drop-length b) (sym (append-nil b)); size = omega arith; within = omega arith; shaped = row-type w; deep = row-deep w }
+
+  -- the first argument by the front of its type: the kind one level down, and the record with k there
+  module _ {i : ℕ} (h : ScalarFirst s i) where
+    pub scalar-down : inner-kind.Kind i ≡ innerOf (litKind (inner (typeOf v)))
+    scalar-down = scalar-inner own (h v l w)
+
+    pub scalar-set : {k : ℕ} (j : Kind) → k ≡ kindNo j → Stands 15 (‘T’ ∷ ‘s’ ∷ k ∷ []) 0 (setLeaf j (typeOf v)) 3
+    unfolding setLeaf tyBytes shapedTy depth
+    scalar-set j n = rw (scalar-is own (h v l w) .is, n) record { here = refl; size = refl; within = omega arith; shaped = tt; deep = omega arith }
+
+  module _ {m i : ℕ} (h : VectorFirst s m i) where
+    pub vector-down : inner-kind.Kind i ≡ innerOf (litKind (inner (typeOf v)))
+    vector-down = vector-inner own (h v l w)
+
+    pub vector-set : {k : ℕ} (j : Kind) → k ≡ kindNo j → Stands 15 (‘T’ ∷ ‘v’ ∷ m ∷ ‘T’ ∷ ‘s’ ∷ k ∷ []) 0 (setLeaf j (typeOf v)) 6
+    unfolding setLeaf tyBytes shapedTy depth
+    vector-set j n =
+        let e = vector-is own (h v l w) .is in
+        let g = subst (λ (t : Ty). T (shapedTy t)) e (row-type w) in
+        rw (e, n) record { here = refl; size = refl; within = omega arith; shaped = g; deep = omega arith }
+
+  -- what is made of the arguments, once the record with k there stands in ty
+  module _ {k count : ℕ} (j : Kind) (n : k ≡ kindNo j) (h : count ≡ length (v ∷ l)) (g : GoesTo j (typeOf v)) {ty : List ℕ} {q : ℕ} (t : Stands 15 ty 0 (setLeaf j (typeOf v)) q) where
+    mat-to : To k ty s count j (setLeaf j (typeOf v)) (v ∷ l)
+    mat-to = record { no = n; end = q; stands = t; bottom = down-leaf j (typeOf v) (setLeaf j (typeOf v)) (g .down); row = w; size = h }
+
+    pub mat-asked : SomeTo k ty s count
+    mat-asked = record { kind = j; type = setLeaf j (typeOf v); values = v ∷ l; to = mat-to }
+
+    pub mat-made : (c r : ℕ) (out : List ℕ) {x : Written} {out′ : List ℕ} → ToMade c r k ty s count out x out′ → Builds (matParts c r j v l) out x out′
+    mat-made c r out f = builds-as out (mat-goes c r j v l g) (f j (setLeaf j (typeOf v)) (v ∷ l) mat-to)
 
 -- ---- "float, AbstractInt becoming AbstractFloat"
 

@@ -15,7 +15,8 @@ use Rattle.meaning.specs.Build.{ctorLit, matShape, payloadsOfAll, toInner, matP
 use Rattle.meaning.specs.Entries.{stageOf}
 use Rattle.kind.specs.Ends.{ofKind}
 use Rattle.ty.specs.Stands.{Stands}
-use Rattle.call.specs.Row.{Row}
+use Rattle.ty.specs.declared.Head.the-variants.{Scalar, Vector}
+use Rattle.call.specs.Row.{Row, HeadOf}
 use Rattle.call.specs.Told.{Builds}
 use Rattle.call.specs.declared.Written.{Written}
 use Rattle.matrix.specs.declared.Inner.{Inner}
@@ -27,6 +28,13 @@ pub record SomeGiven (s : List ℕ) (count : ℕ) : Type 0 where
   pub others : List Val
   pub row : Row s 0 (value ∷ others)
   pub size : count ≡ length (value ∷ others)
+
+-- the first is a scalar of the kind whose number is i; a vector of n of that kind
+abbrev pub ScalarFirst : List ℕ → ℕ → Type 0
+ScalarFirst s i = HeadOf s 0 (Scalar i)
+
+abbrev pub VectorFirst : List ℕ → ℕ → ℕ → Type 0
+VectorFirst s n i = HeadOf s 0 (Vector n i)
 
 -- ---- a matrix type
 

@@ -266,7 +266,7 @@ fn members_end(s: &[u8], at: usize, n: u16, depth: u8) -> TypeEnd
     let mut i = at;
     let mut left = n;
     while 0 < left {
-        match type_end(s, i, depth) {
+        match walk_end(s, i, depth) {
             TypeEnd::At(e) => {
                 i = e;
             }
@@ -281,15 +281,25 @@ fn members_end(s: &[u8], at: usize, n: u16, depth: u8) -> TypeEnd
 
 // The end of the record of a type of that depth at most, "each walk one level shallower than its parent": the allowed depth is the number that falls, so the
 // walk goes no deeper than it says, whatever the bytes are.
-pub fn type_end(s: &[u8], at: usize, depth: u8) -> TypeEnd
+fn walk_end(s: &[u8], at: usize, depth: u8) -> TypeEnd
     ensures { λ r. ⌜ Told (Ends depth (now (s .entry)) at) r ⌝ }
 {
     match front_at(s, at, depth) {
         Front::Whole(e) => TypeEnd::At(e),
-        Front::Array => type_end(s, at + 4, depth - 1),
+        Front::Array => walk_end(s, at + 4, depth - 1),
         Front::Struct(n) => members_end(s, at + 6, n, depth - 1),
         Front::Neither => TypeEnd::Bad,
     }
+}
+
+// The same, without the walk where a scalar stands: most types are scalars, and a look where the bytes are is much cheaper than a call.
+pub fn type_end(s: &[u8], at: usize, depth: u8) -> TypeEnd
+    ensures { λ r. ⌜ Told (Ends depth (now (s .entry)) at) r ⌝ }
+{
+    if is_scalar(s, at) {
+        return TypeEnd::At(at + 3);
+    }
+    walk_end(s, at, depth)
 }
 
 // Whether all of s from `at` on is the record of one type of that depth at most.
@@ -486,7 +496,7 @@ fn members_len(ty: &[u8], at: usize, n: u16, depth: u8) -> Len
     let mut sum: usize = 6;
     let mut left = n;
     while 0 < left {
-        match value_len(ty, i, depth) {
+        match walk_len(ty, i, depth) {
             Len::Is(e, m) => {
                 if m > 18446744073709551615 - sum {
                     return Len::TooLong;
@@ -504,7 +514,7 @@ fn members_len(ty: &[u8], at: usize, n: u16, depth: u8) -> Len
 }
 
 // The length of the value of the type whose record stands at `at`.
-pub fn value_len(ty: &[u8], at: usize, depth: u8) -> Len
+fn walk_len(ty: &[u8], at: usize, depth: u8) -> Len
     requires { ⌜ Standing depth (now ty) at ⌝ }
     ensures { λ r. ⌜ Measured depth (now (ty .entry)) at r ⌝ }
 {
@@ -512,13 +522,24 @@ pub fn value_len(ty: &[u8], at: usize, depth: u8) -> Len
         Head::Scalar(k) => Len::Is(at + 3, literal_len(k)),
         Head::Vector(n, k) => Len::Is(at + 6, vector_len(n, k)),
         Head::Matrix(c, r, k) => Len::Is(at + 7, matrix_len(c, r, k)),
-        Head::Array(n) => array_len(n, value_len(ty, at + 4, depth - 1)),
+        Head::Array(n) => array_len(n, walk_len(ty, at + 4, depth - 1)),
         Head::Struct(_, n) => members_len(ty, at + 6, n, depth - 1),
     }
 }
 
+// The same, without the walk where it is a scalar.
+pub fn value_len(ty: &[u8], at: usize, depth: u8) -> Len
+    requires { ⌜ Standing depth (now ty) at ⌝ }
+    ensures { λ r. ⌜ Measured depth (now (ty .entry)) at r ⌝ }
+{
+    if ty[at + 1] == b's' {
+        return Len::Is(at + 3, literal_len(ty[at + 2]));
+    }
+    walk_len(ty, at, depth)
+}
+
 // The scalar kind at the bottom of the type that stands at `at`.
-pub fn leaf_at(ty: &[u8], at: usize, depth: u8) -> Leaf
+fn walk_leaf(ty: &[u8], at: usize, depth: u8) -> Leaf
     requires { ⌜ Standing depth (now ty) at ⌝ }
     ensures { λ r. ⌜ LeafAt depth (now (ty .entry)) at r ⌝ }
 {
@@ -526,9 +547,20 @@ pub fn leaf_at(ty: &[u8], at: usize, depth: u8) -> Leaf
         Head::Scalar(k) => Leaf::Kind(k),
         Head::Vector(_, k) => Leaf::Kind(k),
         Head::Matrix(_, _, k) => Leaf::Kind(k),
-        Head::Array(_) => leaf_at(ty, at + 4, depth - 1),
+        Head::Array(_) => walk_leaf(ty, at + 4, depth - 1),
         Head::Struct(_, _) => Leaf::Struct,
     }
+}
+
+// The same, without the walk where it is a scalar.
+pub fn leaf_at(ty: &[u8], at: usize, depth: u8) -> Leaf
+    requires { ⌜ Standing depth (now ty) at ⌝ }
+    ensures { λ r. ⌜ LeafAt depth (now (ty .entry)) at r ⌝ }
+{
+    if ty[at + 1] == b's' {
+        return Leaf::Kind(ty[at + 2]);
+    }
+    walk_leaf(ty, at, depth)
 }
 
 // Whether two byte strings are equal. "Two types are equal exactly when their bytes are."

@@ -19,10 +19,9 @@ use Rattle.kind.specs.Ends.{tested}
 use Rattle.ty.specs.Heads.{headOf}
 use Rattle.ty.specs.declared.Head.the-variants.{Scalar, Vector, Matrix, Array, Struct}
 use Rattle.ty.proofs.Heads.{scalar-is, vector-is, matrix-is, array-is, struct-is}
-use Rattle.conv.specs.Ranked.{Whole}
+use Rattle.conv.specs.Ranked.{Whole, KindConverts}
 use Rattle.conv.proofs.Ranks.{KindIs}
 use Rattle.lists.specs.Lists.{TypeRow}
-use Rattle.typing.specs.Kinds.{KindConverts}
 use Rattle.typing.specs.Parts.{Members, Passes}
 use Rattle.typing.specs.Rules.{Given, Rules, StructIs}
 use Rattle.typing.specs.declared.Checked.{Checked}

@@ -19,9 +19,8 @@ use Rattle.ty.specs.Stands.{Stands}
 use Rattle.ty.specs.Heads.{headOf}
 use Rattle.ty.specs.declared.Head.the-variants.{Scalar, Vector, Matrix, Array, Struct}
 use Rattle.ty.proofs.Heads.{scalar-is, vector-is, matrix-is, array-is, struct-is}
-use Rattle.conv.specs.Ranked.{Whole}
+use Rattle.conv.specs.Ranked.{Whole, KindConverts}
 use Rattle.conv.proofs.Ranks.{KindIs}
-use Rattle.typing.specs.Kinds.{KindConverts}
 use Rattle.typing.specs.Rules.{Rules, typeDown, LikeIs}
 use Rattle.typing.specs.declared.Checked.{Checked}
 use Rattle.typing.specs.declared.Checked.the-variants as checked

@@ -6,24 +6,19 @@ use mathlib.Core.List.{List}
 use Prim.Native.Nat.{ℕ, _+_, _-_}
 use native.Mathlib.Omega.{arith}
 use borrow.Author.Tests.{eq-eqb, ne-eqb}
-use Rattle.meaning.specs.Kinds.{Kind, aint, kindNo, kindRank, isFloat, isAbstract, sameKind}
-use Rattle.meaning.specs.Scalars.{some?}
+use Rattle.meaning.specs.Kinds.{Kind, aint, kindNo, isFloat, isAbstract, sameKind}
 use Rattle.meaning.specs.Trees.{Ty, Ts, Tv, Tm, Ta, Tu, Tys, inner}
 use Rattle.meaning.specs.Convert.{converts, floatKind}
 use Rattle.meaning.specs.Build.{litKind}
 use Rattle.laws.proofs.AgreeLit.{kind-back}
-use Rattle.laws.proofs.AgreeVec.{converts-lit}
 use Rattle.kind.specs.Ends.{ofKind, tested}
-use Rattle.literal.specs.Told.{rankOf, rankBetween}
-use Rattle.literal.specs.declared.Rank.{Rank}
-use Rattle.literal.specs.declared.Rank.the-variants.{At, Never}
 use Rattle.ty.specs.Stands.{Stands, Standing}
 use Rattle.ty.specs.Fronts.{floatNumber}
 use Rattle.ty.specs.Heads.{headOf}
 use Rattle.ty.specs.declared.Head.the-variants.{Scalar, Vector, Matrix, Array, Struct}
 use Rattle.ty.proofs.Numbers.{float-number}
 use Rattle.ty.proofs.Heads.{scalar-is, vector-is, matrix-is, array-is, struct-is}
-use Rattle.conv.proofs.Ranks.{KindIs, between}
+use Rattle.conv.proofs.Ranks.{KindIs}
 use Rattle.typing.specs.Kinds.{foundOf, meetKind, LitKindAt}
 use Rattle.typing.specs.declared.Found.{Found}
 use Rattle.typing.specs.declared.Found.the-variants.{Kind as Is, Nothing}
@@ -40,27 +35,9 @@ unfolding foundOf
 found-none none e = refl
 found-none (some j) e = absurd (let z : _≡_ {A = ℕ} 0 1 = cc in omega arith)
 
--- ---- ranks
+-- ---- the common kind of two
 
 module _ {j k : ℕ} (a b : Kind) (e : j ≡ kindNo a) (f : k ≡ kindNo b) where
-  pub rank-at : {n : ℕ} {r : Rank} → r ≡ rankOf (rankBetween j k) → r ≡ At n → true ≡ converts (Ts a) (Ts b)
-  unfolding rankOf some?
-  rank-at {n} p q = go (kindRank a b) (sym q ∙ (p ∙ ap rankOf (between a b e f))) ∙ sym (converts-lit a b)
-    where
-      go : (o : Option ℕ) → At n ≡ rankOf o → true ≡ some? o
-      go none h = absurd (let z : _≡_ {A = ℕ} 0 1 = cc in omega arith)
-      go (some m) h = refl
-
-  pub rank-never : {r : Rank} → r ≡ rankOf (rankBetween j k) → r ≡ Never → false ≡ converts (Ts a) (Ts b)
-  unfolding rankOf some?
-  rank-never p q = go (kindRank a b) (sym q ∙ (p ∙ ap rankOf (between a b e f))) ∙ sym (converts-lit a b)
-    where
-      go : (o : Option ℕ) → Never ≡ rankOf o → false ≡ some? o
-      go none h = refl
-      go (some m) h = absurd (let z : _≡_ {A = ℕ} 0 1 = cc in omega arith)
-
-  -- ---- the common kind of two
-
   module _ {x : Bool} (p : x ≡ converts (Ts a) (Ts b)) where
     pub meet-next : x ≡ true → Is k ≡ foundOf (meetKind a b)
     unfolding meetKind foundOf

@@ -1,7 +1,7 @@
 -- Scalar kinds by their numbers, and the kinds that types bring.
 use mathlib.Core.Path.{_≡_}
 use mathlib.Core.Option.{Option, none, some}
-use mathlib.Core.Bool.{Bool, cond}
+use mathlib.Core.Bool.{cond}
 use mathlib.Core.List.{List}
 use Prim.Native.Nat.{ℕ}
 use Rattle.meaning.specs.Kinds.{Kind, kindNo}
@@ -17,10 +17,6 @@ use Rattle.typing.specs.declared.Found.the-variants.{Kind as Is, Nothing
 unfoldable pub foundOf : Option Kind → Found
 foundOf none = Nothing
 foundOf (some k) = Is (kindNo k)
-
--- whether the one kind converts to the other, by their numbers
-abbrev pub KindConverts : ℕ → ℕ → Bool → Type 0
-KindConverts j k r = (a b : Kind) → j ≡ kindNo a → k ≡ kindNo b → r ≡ converts (Ts a) (Ts b)
 
 -- of the kind so far and the next one: the next if the first converts to it, else the first if the next converts to it
 unfoldable pub meetKind : Kind → Kind → Option Kind

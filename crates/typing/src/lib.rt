@@ -3,7 +3,6 @@ use call::Written;
 use inst::Args;
 use kind::Scalar;
 use lists::Common;
-use literal::Rank;
 use ty::Head;
 use ty::Target;
 ghost use mathlib.Core.Path.{_≡_};
@@ -16,7 +15,7 @@ ghost use Rattle.ty.specs.Stands.{Standing, Ends};
 ghost use Rattle.conv.specs.Ranked.{OneType};
 ghost use Rattle.call.specs.Told.{Told};
 ghost use Rattle.lists.specs.Lists.{SomeTypeRow, SomeType, SkipsType};
-ghost use Rattle.typing.specs.Kinds.{KindConverts, KindsMeet, FloatOf, PartKindAt, PartCountAt, LitKindAt, InnerKind};
+ghost use Rattle.typing.specs.Kinds.{KindsMeet, FloatOf, PartKindAt, PartCountAt, LitKindAt, InnerKind};
 ghost use Rattle.typing.specs.Parts.{ConvertsAt, AllConvert, SomeMembers, MembersConvert, PartTo, PartsTo, PartOf, PartsOf, TotalIs, MeetPart, SomeParts, CommonKind};
 ghost use Rattle.typing.specs.Rules.{SomeGiven, ScalarChecks, VectorOneChecks, VectorPartsCheck, VectorChecks, ArrayChecks, SomeStruct, StructChecks};
 ghost use Rattle.typing.specs.Rules.{ShapeChecks, DownChecks, MatrixPartsCheck, Singles, MatrixOneChecks, MatrixChecks, GoodType, TypeChecks};
@@ -53,24 +52,14 @@ enum Named {
 
 // ---- scalar kinds
 
-// Whether a scalar of the kind j converts to the kind k.
-fn kind_converts(j: u8, k: u8) -> bool
-    ensures { λ r. ⌜ KindConverts j k r ⌝ }
-{
-    match literal::kind_rank(j, k) {
-        Rank::At(_) => true,
-        Rank::Never => false,
-    }
-}
-
 // The common kind of the kind so far and the next one, as the source folds types, pair by pair.
 fn meet_kinds(j: u8, k: u8) -> Found
     ensures { λ r. ⌜ KindsMeet j k r ⌝ }
 {
-    if kind_converts(j, k) {
+    if conv::kind_converts(j, k) {
         return Found::Kind(k);
     }
-    if kind_converts(k, j) {
+    if conv::kind_converts(k, j) {
         return Found::Kind(j);
     }
     Found::Nothing
@@ -162,7 +151,7 @@ fn part_converts(args: &[u8], i: usize, k: u8) -> bool
     ensures { λ r. ⌜ PartTo k (now (args .entry)) i r ⌝ }
 {
     match part_kind(args, i) {
-        Found::Kind(j) => kind_converts(j, k),
+        Found::Kind(j) => conv::kind_converts(j, k),
         Found::Nothing => false,
     }
 }
@@ -325,7 +314,7 @@ fn check_vector_one(m: u8, k: u8, args: &[u8]) -> Checked
 {
     match ty::head_at(args, 0, 15) {
         Head::Scalar(j) => {
-            if kind_converts(j, k) {
+            if conv::kind_converts(j, k) {
                 return Checked::Passed;
             }
             Checked::Refused(7)
@@ -439,7 +428,7 @@ fn matrix_from(c: u8, r: u8, k: u8, ty: &[u8], n: usize) -> Checked
 {
     match inner_kind(ty) {
         Found::Kind(j) => {
-            if kind_converts(j, k) {
+            if conv::kind_converts(j, k) {
                 return matrix_shape(c, r, ty, n);
             }
             Checked::Refused(7)

@@ -13,7 +13,7 @@ use reference::{
     call::{Answer, Call, Entry, decode},
     classes::{Class, classified},
     generate,
-    hex::{from_hex, to_hex},
+    hex::from_hex,
 };
 
 const USAGE: &str = "usage: answers --seed N --calls N [--entry call_ctor|type_ctor|convert_to|conversion_rank]\n       answers --stdin";
@@ -102,18 +102,10 @@ fn read_call(line: &str) -> Option<Call> {
 }
 
 fn print_call(out: &mut impl Write, call: &Call, counts: &mut Counts) -> Done {
-    let decoded = decode(call).ok_or_else(|| format!("malformed call: {}", call_text(call)))?;
+    let decoded = decode(call).ok_or_else(|| format!("malformed call: {call}"))?;
     let (class, answer) = classified(&decoded);
     counts.add(class, call, &answer);
-    writeln!(out, "{} {} {answer}", class.name(), call_text(call)).map_err(|e| e.to_string())
-}
-
-fn call_text(call: &Call) -> String {
-    let stage = match call.entry {
-        Entry::CallCtor => call.stage.to_string(),
-        _ => "-".to_string(),
-    };
-    format!("{} {stage} {} {}", call.entry.name(), to_hex(&call.target), to_hex(&call.args))
+    writeln!(out, "{} {call} {answer}", class.name()).map_err(|e| e.to_string())
 }
 
 /// Counts by class, by entry and answer, and the bytes of arguments.

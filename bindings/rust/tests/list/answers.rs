@@ -6,7 +6,10 @@ use vireodesk::*;
 fn due(line: &Line) -> Answer {
     match line.class.as_str() {
         "rows" => Answer::No(14, None),
-        "nan-fits" => Answer::No(if line.target[0] == b'Q' || line.target[1] == b'm' { 10 } else { 9 }, None),
+        "nan-fits" => {
+            let by_ten = line.target[0] == b'Q' || line.target[1] == b'm';
+            Answer::No(if line.entry == "call_ctor" && by_ten { 10 } else { 9 }, None)
+        }
         "wrap" => {
             let given = Type::decode_list(&line.args).expect("the list's types are well formed").len();
             Answer::No(8, Some((line.target[2].into(), given as u64)))

@@ -1,8 +1,9 @@
 -- The end of the value that stands there is the one value's end.
 use native.Mathlib.Omega.{arith}
 use borrow.Author.Needs.{needs}
-use Rattle.call.proofs.Rows.{row-typed, row-has, next-at}
-use Rattle.call.proofs.Literals.{least, literal-by, literal-end}
+use Rattle.call.proofs.Rows.{row-typed, next-at}
+use Rattle.call.proofs.Literals.{literal-by, literal-end}
+use Rattle.call.proofs.Firsts.{three-bytes, vector-arg, vector-next}
 use Rattle.call.proofs.next_arg.Statement.{statement}
 use Rattle.call.proofs.next_arg.Tie as tie
 
@@ -13,18 +14,36 @@ next-arg-spec =
     -- add-if1
     (λ c. search needs)
     -- shared-slice-read-if1
-    (λ c. let x = c .before .before .pre in omega (arith, row-has (x .row) .bytes .within, least (x .value)))
+    (λ c. omega (arith, three-bytes (c .before .before .pre .row)))
     -- add-literal-len
     (λ c. search needs)
     -- shared-slice-read-literal-len
-    (λ c. let x = c .before .before .before .before .pre in omega (arith, row-has (x .row) .bytes .within, least (x .value)))
+    (λ c. omega (arith, three-bytes (c .before .before .before .before .pre .row)))
     -- literal-len-requires
     (λ c κs. search needs)
     -- add-result
     (λ c. search needs)
     -- returns
     (λ c v l x. literal-end x (literal-by x (c .before .before .if1 .taken)) (c .literal-len .ensures) .2)
-    -- value-end-requires
-    (λ c κs. let x = c .before .before .before .pre .row in record { type = _; end = _; typed = row-typed x })
+    -- add-if2
+    (λ c. search needs)
+    -- shared-slice-read-if2
+    (λ c. omega (arith, three-bytes (c .before .before .before .before .pre .row)))
+    -- add-vector-len
+    (λ c. search needs)
+    -- shared-slice-read-vector-len
+    (λ c. omega (arith, three-bytes (c .before .before .before .before .before .before .pre .row)))
+    -- add-vector-len-2
+    (λ c. search needs)
+    -- shared-slice-read-vector-len-2
+    (λ c. omega (arith, vector-arg (c .before .before .before .before .before .before .before .pre .row) (c .before .before .if2 .taken) .room))
+    -- vector-len-requires
+    (λ c κs. search needs)
+    -- add-result-2
+    (λ c. search needs)
     -- returns-2
+    (λ c v l x. vector-next x (c .before .before .before .if2 .taken) (c .vector-len .ensures))
+    -- value-end-requires
+    (λ c κs. let x = c .before .before .before .before .before .pre .row in record { type = _; end = _; typed = row-typed x })
+    -- returns-3
     (λ c v l x. next-at x (c .value-end .ensures _ _ (row-typed x))))

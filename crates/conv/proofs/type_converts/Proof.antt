@@ -1,7 +1,6 @@
--- A type converts where there is a rank.
-use mathlib.Core.Path.{sym, _∙_}
+-- Two scalars are looked at by their kinds.
 use borrow.Author.Needs.{needs}
-use Rattle.conv.proofs.Ranks.{rank-converts, never-converts}
+use Rattle.conv.proofs.Ranks.{scalars-convert}
 use Rattle.conv.proofs.type_converts.Statement.{statement}
 use Rattle.conv.proofs.type_converts.Tie as tie
 
@@ -9,13 +8,15 @@ pub type-converts-spec : {M : Type 1} → statement M
 type-converts-spec =
     tie.close
     (tie.spec
-    -- type-rank-requires
+    -- shared-slice-read-kind-converts
+    (λ c. search needs)
+    -- shared-slice-read-kind-converts-2
+    (λ c. search needs)
+    -- kind-converts-requires
     (λ c κs. search needs)
-    -- enum-told
-    (λ c. search needs)
-    -- enum-told-2
-    (λ c. search needs)
     -- returns
-    (λ c t u w v. rank-converts t u (sym (c .enum-told .given .1) ∙ c .before .before .type-rank .ensures t u w v))
+    (λ c t u w v. scalars-convert w (c .before .before .before .before .if1 .taken) v (c .before .before .before .if2 .taken) (c .kind-converts .ensures))
+    -- other-converts-requires
+    (λ c κs. search needs)
     -- returns-2
-    (λ c t u w v. never-converts t u (sym (c .enum-told2 .given .1) ∙ c .before .before .type-rank .ensures t u w v)))
+    (λ c. search needs))

@@ -1,49 +1,23 @@
--- The front says the only type that a value there can have.
-use mathlib.Core.Path.{sym, subst}
-use native.Mathlib.Omega.{arith}
-use Rattle.meaning.specs.Records.{tyBytes}
-use Rattle.meaning.specs.Trees.{Ts, Tv, Tm}
-use Rattle.inst.specs.Derives.{FrontIs}
-use Rattle.inst.specs.declared.Front.{Front}
-use Rattle.inst.proofs.Rest.{flat-of, flat-kind}
+-- What was found first is such an argument, and so is what is found else.
+use mathlib.Core.Path.{subst}
+use Rattle.inst.specs.Counts.{Flat}
 use borrow.Author.Needs.{needs}
 use Rattle.inst.proofs.flat_end.Statement.{statement}
 use Rattle.inst.proofs.flat_end.Tie as tie
 
 pub flat-end-spec : {M : Type 1} → statement M
-unfolding tyBytes
 flat-end-spec =
     tie.close
     (tie.spec
-    -- front-at-requires
+    -- literal-end-requires
     (λ c κs. search needs)
-    -- enum-known-k
+    -- enum-known-e
     (λ c. search needs)
-    -- literal-as-requires
-    (λ c κs. let a = c .before .before .before .before .before .args in flat-kind Ts (subst (FrontIs 2 (a .s .now) (a .at)) (c .before .k .given .1) (c .before .before .before .front-at .ensures)))
-    -- enum-known-n
-    (λ c. search needs)
-    -- vector-as-requires
-    (λ c κs. let a = c .before .before .before .before .before .args in flat-kind (Tv (c .before .n .given .0 .0)) (subst (FrontIs 2 (a .s .now) (a .at)) (c .before .n .given .1) (c .before .before .before .front-at .ensures)))
-    -- enum-known-c
-    (λ c. search needs)
-    -- matrix-as-requires
-    (λ c κs. let a = c .before .before .before .before .before .args in flat-kind (Tm (c .before .c .given .0 .0) (c .before .c .given .0 .1 .0)) (subst (FrontIs 2 (a .s .now) (a .at)) (c .before .c .given .1) (c .before .before .before .front-at .ensures)))
     -- enum-told
     (λ c. search needs)
-    -- enum-told-2
-    (λ c. search needs)
-    -- enum-told-3
-    (λ c. search needs)
+    -- other-flat-end-requires
+    (λ c κs. search needs)
     -- returns
-    (λ c. let a = c .before .before .before .before .before .before .args in let f = subst (FrontIs 2 (a .s .now) (a .at)) (c .before .before .k .given .1) (c .before .before .before .before .front-at .ensures) in flat-of Ts f (c .literal-as .result) (λ j. omega arith) (c .literal-as .ensures (f .kind) (f .no)))
+    (λ c. let a = c .before .before .before .before .before .args in subst (Flat (a .s .now) (a .at)) (c .before .e .given .1) (c .before .before .before .literal-end .ensures))
     -- returns-2
-    (λ c. let a = c .before .before .before .before .before .before .args in let f = subst (FrontIs 2 (a .s .now) (a .at)) (c .before .before .n .given .1) (c .before .before .before .before .front-at .ensures) in flat-of (Tv (c .before .before .n .given .0 .0)) f (c .vector-as .result) (λ j. omega arith) (c .vector-as .ensures (f .kind) (f .no)))
-    -- returns-3
-    (λ c. let a = c .before .before .before .before .before .before .args in let f = subst (FrontIs 2 (a .s .now) (a .at)) (c .before .before .c .given .1) (c .before .before .before .before .front-at .ensures) in flat-of (Tm (c .before .before .c .given .0 .0) (c .before .before .c .given .0 .1 .0)) f (c .matrix-as .result) (λ j. omega arith) (c .matrix-as .ensures (f .kind) (f .no)))
-    -- returns-4
-    (λ c. search needs)
-    -- returns-5
-    (λ c. search needs)
-    -- returns-6
     (λ c. search needs))

@@ -3,7 +3,8 @@ use native.Mathlib.Omega.{arith}
 use borrow.Author.Needs.{needs}
 use lib.ListN.{length-set}
 use Rattle.call.proofs.Literals.{literal-by}
-use Rattle.lists.proofs.Literals.{arg-three, literal-first}
+use Rattle.call.proofs.Firsts.{three-bytes}
+use Rattle.lists.proofs.Literals.{literal-first}
 use Rattle.lists.proofs.first_type.Statement.{statement}
 use Rattle.lists.proofs.first_type.Tie as tie
 
@@ -12,7 +13,7 @@ first-type-spec =
     tie.close
     (tie.spec
     -- shared-slice-read-if1
-    (λ c. omega (arith, arg-three (c .before .before .before .pre .0 .row)))
+    (λ c. omega (arith, three-bytes (c .before .before .before .pre .0 .row)))
     -- first-other-requires
     (λ c κs. search needs)
     -- same-length
@@ -20,7 +21,7 @@ first-type-spec =
     -- returns
     (λ c. c .before .before .first-other .ensures)
     -- shared-slice-read-k
-    (λ c. omega (arith, arg-three (c .before .before .before .before .before .pre .0 .row)))
+    (λ c. omega (arith, three-bytes (c .before .before .before .before .before .pre .0 .row)))
     -- literal-len-requires
     (λ c κs. search needs)
     -- slice-write-ty

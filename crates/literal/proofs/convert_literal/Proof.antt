@@ -1,38 +1,32 @@
--- `literal::convert_literal` meets its contract, by what the rank tells.
+-- `literal::convert_literal` meets its contract: the kind of `from` picks the rule, and a number over 6 has none.
 use borrow.Author.Needs.{needs}
-use mathlib.Core.Path.{sym, _∙_}
-use Rattle.literal.specs.Told.{convertedOf}
-use Rattle.literal.proofs.Rules.{kept, changed, refused}
+use mathlib.Core.Path.{refl, ap, _∙_}
+use mathlib.Core.Option.{none}
+use Rattle.meaning.specs.Kinds.{bool, i32, u32, f32, f16, kindNo, kindOf, kindRank}
+use Rattle.kind.specs.Ends.{ofKind}
+use Rattle.kind.proofs.Numbers.{over}
+use Rattle.literal.specs.Told.{convertedOf, convFrom, convBetween}
+use Rattle.literal.proofs.Rules.{kept}
 use Rattle.literal.proofs.convert_literal.Statement.{statement}
 use Rattle.literal.proofs.convert_literal.Tie as tie
 
-returns : tie.Need-returns
-unfolding convertedOf
-returns c =
-    let a = c .before .before .before .before .args in
-    rw (kept (a .from) (a .to) (a .bits) _ (c .if1 .taken) (sym (c .before .before .before .kind-rank .ensures) ∙ c .before .enum-told .given .1))
-
-returns-2 : tie.Need-returns-2
-returns-2 c =
-    let a = c .before .before .before .before .before .before .args in
-    let e = sym (c .before .before .before .before .before .kind-rank .ensures) ∙ c .before .before .before .enum-told .given .1 in
-    rw (changed (a .from) (a .to) (a .bits) _ (c .before .before .if1 .left) e, c .before .parts-of .ensures .means) (c .convert-number .ensures)
-
-returns-3 : tie.Need-returns-3
-unfolding convertedOf
-returns-3 c =
-    let a = c .before .before .before .args in
-    rw (refused (a .from) (a .to) (a .bits) (sym (c .before .before .kind-rank .ensures) ∙ c .enum-told2 .given .1))
-
 pub convert-literal-spec : {M : Type 1} → statement M
+unfolding convBetween convFrom ofKind kindOf kindRank kindNo convertedOf
 convert-literal-spec =
     tie.close
     (tie.spec
     (λ c κs. search needs)
-    (λ c. search needs)
     (λ c κs. search needs)
     (λ c κs. search needs)
-    (λ c. search needs)
-    returns
-    returns-2
-    returns-3)
+    (λ c κs. search needs)
+    (λ c κs. search needs)
+    (λ c κs. search needs)
+    (λ c κs. search needs)
+    (λ c. let a = c .before .before .args in c .convert-same .ensures ∙ ap convertedOf (kept bool (λ k. refl) (a .to) (a .from) (a .bits) (c .before .match .keys1)))
+    (λ c. rw (c .before .match .keys2) (c .convert-abstract-int .ensures))
+    (λ c. rw (c .before .match .keys3) (c .convert-abstract-float .ensures))
+    (λ c. let a = c .before .before .args in c .convert-same2 .ensures ∙ ap convertedOf (kept i32 (λ k. refl) (a .to) (a .from) (a .bits) (c .before .match .keys4)))
+    (λ c. let a = c .before .before .args in c .convert-same3 .ensures ∙ ap convertedOf (kept u32 (λ k. refl) (a .to) (a .from) (a .bits) (c .before .match .keys5)))
+    (λ c. let a = c .before .before .args in c .convert-same4 .ensures ∙ ap convertedOf (kept f32 (λ k. refl) (a .to) (a .from) (a .bits) (c .before .match .keys6)))
+    (λ c. let a = c .before .before .args in c .convert-same5 .ensures ∙ ap convertedOf (kept f16 (λ k. refl) (a .to) (a .from) (a .bits) (c .before .match .keys7)))
+    (λ c. let a = c .before .args in ap convertedOf (over none (λ j. convFrom j (a .to) (a .bits)) (a .from) (c .match .rest))))
