@@ -41,10 +41,7 @@ pub extern "C" fn vireo_f16_to_f32(x: u64) -> u64
 pub extern "C" fn vireo_fits(to: u8, from: u8, bits: u64) -> bool
     ensures { λ r. ⌜ r ≡ some? (convBetween to from bits) ⌝ }
 {
-    match literal::convert_literal(to, from, bits) {
-        Converted::To(_) => true,
-        Converted::Unfit => false,
-    }
+    literal::literal_fits(to, from, bits)
 }
 
 // The literal converted, or 0 where it does not fit.
