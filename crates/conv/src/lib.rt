@@ -161,7 +161,7 @@ fn number_of(src: &[u8], at: usize, width: usize) -> u64
 }
 
 // The same, eight bytes at once: a payload's width.
-pub fn get_le(src: &[u8], at: usize, width: usize) -> u64
+fn get_le(src: &[u8], at: usize, width: usize) -> u64
     requires { ⌜ (width ≤ 8) × (at + width ≤ length (now src)) ⌝ }
     ensures { λ r. ⌜ r ≡ numberAt (now (src .entry)) at width ⌝ }
 {
@@ -169,6 +169,16 @@ pub fn get_le(src: &[u8], at: usize, width: usize) -> u64
         return ty::eight(src, at);
     }
     number_of(src, at, width)
+}
+
+// The payload of the literal whose record begins at i, as wide as its kind says.
+pub fn payload_at(src: &[u8], i: usize) -> u64
+    requires { ⌜ i + (3 + widthOf (getD (now src) (i + 2) 0)) ≤ length (now src) ⌝ }
+    ensures { λ r. ⌜ r ≡ numberAt (now (src .entry)) (i + 3) (widthOf (getD (now (src .entry)) (i + 2) 0)) ⌝ }
+{
+    let j = src[i + 2];
+    let scalar = Scalar { kind: j };
+    get_le(src, i + 3, scalar.width())
 }
 
 // Two bytes.
@@ -283,10 +293,7 @@ fn literal_at(src: &[u8], i: usize, k: u8) -> Converted
     requires { ⌜ i + (3 + widthOf (getD (now src) (i + 2) 0)) ≤ length (now src) ⌝ }
     ensures { λ r. ⌜ r ≡ literalTo k (now (src .entry)) i ⌝ }
 {
-    let j = src[i + 2];
-    let scalar = Scalar { kind: j };
-    let payload = get_le(src, i + 3, scalar.width());
-    literal::convert_literal(k, j, payload)
+    literal::convert_literal(k, src[i + 2], payload_at(src, i))
 }
 
 // Whether that literal converts to the kind k.
@@ -294,10 +301,7 @@ pub fn literal_fits(src: &[u8], i: usize, k: u8) -> bool
     requires { ⌜ i + (3 + widthOf (getD (now src) (i + 2) 0)) ≤ length (now src) ⌝ }
     ensures { λ r. ⌜ r ≡ some? (literalAs k (now (src .entry)) i) ⌝ }
 {
-    let j = src[i + 2];
-    let scalar = Scalar { kind: j };
-    let payload = get_le(src, i + 3, scalar.width());
-    literal::literal_fits(k, j, payload)
+    literal::literal_fits(k, src[i + 2], payload_at(src, i))
 }
 
 // Whether the item converts to the kind k; a mark always does.

@@ -18,10 +18,7 @@ fn made_at(stage: u8, src: &[u8], i: usize, k: u8) -> Made
     requires { ⌜ i + (3 + widthOf (getD (now src) (i + 2) 0)) ≤ length (now src) ⌝ }
     ensures { λ r. ⌜ paper r ≡ madeAt stage k (now (src .entry)) i ⌝ }
 {
-    let j = src[i + 2];
-    let scalar = Scalar { kind: j };
-    let payload = conv::get_le(src, i + 3, scalar.width());
-    literal::construct_literal(stage, k, j, payload)
+    literal::construct_literal(stage, k, src[i + 2], conv::payload_at(src, i))
 }
 
 // The number of a refusal, and 0 where a payload was made.

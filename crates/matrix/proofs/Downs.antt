@@ -27,6 +27,7 @@ use Rattle.literal.specs.declared.Rank.the-variants.{At, Never}
 use Rattle.ty.specs.Stands.{Stands}
 use Rattle.ty.specs.Fronts.{floatNumber}
 use Rattle.ty.proofs.Leaves.{leaf-last}
+use Rattle.conv.specs.Ranked.{KindConverts}
 use Rattle.conv.proofs.Ranks.{KindIs}
 use Rattle.matrix.specs.declared.Inner.the-variants as inner-kind
 use Rattle.matrix.specs.Shapes.{innerOf}
@@ -112,13 +113,16 @@ goes-to j t h = go (toInner j t) refl h
         let d = down j t u e in
         record { into = e ∙ ap some (sym (d .is)); down = record { kind = d .kind; at = d .at; is = refl; ranks = d .ranks } }
 
--- by the rank of the kind one level down
-module _ {k : ℕ} (j : Kind) (n : k ≡ kindNo j) (t : Ty) {i : ℕ} (h : inner-kind.Kind i ≡ innerOf (litKind (inner t))) where
-  pub rank-no : Never ≡ rankOf (rankBetween i k) → toInner j t ≡ none
-  rank-no q = goes-no j t (down-no j n t h q)
+-- by whether the kind one level down converts
+module _ {k : ℕ} (j : Kind) (n : k ≡ kindNo j) (t : Ty) {i : ℕ} (h : inner-kind.Kind i ≡ innerOf (litKind (inner t))) {b : Bool} (f : KindConverts i k b) where
+  by-kind : b ≡ some? (toInner j t)
+  by-kind = let y = kind-some i (litKind (inner t)) h in f (y .kind) j (y .no) n ∙ sym (down-by j t ∙ ap (λ (u : Ty). converts u (Ts j)) (lit-is (inner t) (y .is)))
 
-  pub rank-to : {m : ℕ} → At m ≡ rankOf (rankBetween i k) → GoesTo j t
-  rank-to q = goes-to j t (down-yes j n t h q)
+  pub kind-stays : b ≡ false → toInner j t ≡ none
+  kind-stays e = goes-no j t (sym e ∙ by-kind)
+
+  pub kind-goes : b ≡ true → GoesTo j t
+  kind-goes e = goes-to j t (sym e ∙ by-kind)
 
 -- ---- "float, AbstractInt becoming AbstractFloat"
 

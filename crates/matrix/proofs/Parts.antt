@@ -27,12 +27,13 @@ use Rattle.laws.proofs.Sound.{some-inj, no-some, kind-no}
 use Rattle.kind.specs.Ends.{ofKind, tested}
 use Rattle.ty.specs.Stands.{Stands, Standing}
 use Rattle.ty.specs.Fronts.{floatNumber}
+use Rattle.ty.specs.declared.Head.the-variants.{Scalar, Vector}
 use Rattle.ty.proofs.Heads.{scalar-is, vector-is}
 use Rattle.conv.specs.Items.{SomeItems, Fits}
 use Rattle.conv.specs.Values.{plains}
 use Rattle.conv.proofs.Ranks.{KindIs}
 use Rattle.conv.proofs.Values.{Scan, list-scan, scan-items, scan-fits, some-map}
-use Rattle.call.specs.Row.{Row}
+use Rattle.call.specs.Row.{Row, HeadOf}
 use Rattle.call.specs.Told.{Builds}
 use Rattle.call.specs.declared.Written.{Written}
 use Rattle.call.proofs.Answers.{builds-as}
@@ -43,7 +44,7 @@ use Rattle.lists.proofs.Laws.{all-shaped, all-typed}
 use Rattle.matrix.specs.declared.Inner.{Inner}
 use Rattle.matrix.specs.declared.Inner.the-variants as inner-kind
 use Rattle.matrix.specs.Shapes.{innerOf, Parts}
-use Rattle.matrix.specs.Asked.{ScalarFirst, VectorFirst, To, SomeTo, matTo, ToMade, floatOf, Typed, qmTo}
+use Rattle.matrix.specs.Asked.{FirstAs, To, SomeTo, matTo, ToMade, floatOf, Typed, qmTo}
 use Rattle.matrix.proofs.Shapes.{scalar-inner, vector-inner}
 use Rattle.matrix.proofs.Downs.{kind-some, kind-none, lit-is, GoesTo, set-stands, float-is}
 
@@ -127,19 +128,19 @@ module _ {s : List ℕ} {v : Val} {l : List Val} (w : Row s 0 (v ∷ l)) where
       record { here = rw (drop-length b) (sym (append-nil b)); size = omega arith; within = omega arith; shaped = row-type w; deep = row-deep w }
 
   -- the first argument by the front of its type: the kind one level down, and the record with k there
-  module _ {i : ℕ} (h : ScalarFirst s i) where
-    pub scalar-down : inner-kind.Kind i ≡ innerOf (litKind (inner (typeOf v)))
+  module _ {i : ℕ} (h : HeadOf s 0 (Scalar i)) where
+    scalar-down : inner-kind.Kind i ≡ innerOf (litKind (inner (typeOf v)))
     scalar-down = scalar-inner own (h v l w)
 
-    pub scalar-set : {k : ℕ} (j : Kind) → k ≡ kindNo j → Stands 15 (‘T’ ∷ ‘s’ ∷ k ∷ []) 0 (setLeaf j (typeOf v)) 3
+    scalar-set : {k : ℕ} (j : Kind) → k ≡ kindNo j → Stands 15 (‘T’ ∷ ‘s’ ∷ k ∷ []) 0 (setLeaf j (typeOf v)) 3
     unfolding setLeaf tyBytes shapedTy depth
     scalar-set j n = rw (scalar-is own (h v l w) .is, n) record { here = refl; size = refl; within = omega arith; shaped = tt; deep = omega arith }
 
-  module _ {m i : ℕ} (h : VectorFirst s m i) where
-    pub vector-down : inner-kind.Kind i ≡ innerOf (litKind (inner (typeOf v)))
+  module _ {m i : ℕ} (h : HeadOf s 0 (Vector m i)) where
+    vector-down : inner-kind.Kind i ≡ innerOf (litKind (inner (typeOf v)))
     vector-down = vector-inner own (h v l w)
 
-    pub vector-set : {k : ℕ} (j : Kind) → k ≡ kindNo j → Stands 15 (‘T’ ∷ ‘v’ ∷ m ∷ ‘T’ ∷ ‘s’ ∷ k ∷ []) 0 (setLeaf j (typeOf v)) 6
+    vector-set : {k : ℕ} (j : Kind) → k ≡ kindNo j → Stands 15 (‘T’ ∷ ‘v’ ∷ m ∷ ‘T’ ∷ ‘s’ ∷ k ∷ []) 0 (setLeaf j (typeOf v)) 6
     unfolding setLeaf tyBytes shapedTy depth
     vector-set j n =
         let e = vector-is own (h v l w) .is in
@@ -156,6 +157,12 @@ module _ {s : List ℕ} {v : Val} {l : List Val} (w : Row s 0 (v ∷ l)) where
 
     pub mat-made : (c r : ℕ) (out : List ℕ) {x : Written} {out′ : List ℕ} → ToMade c r k ty s count out x out′ → Builds (matParts c r j v l) out x out′
     mat-made c r out f = builds-as out (mat-goes c r j v l g) (f j (setLeaf j (typeOf v)) (v ∷ l) mat-to)
+
+pub scalar-first : {s : List ℕ} {k i : ℕ} → HeadOf s 0 (Scalar i) → FirstAs k i (‘T’ ∷ ‘s’ ∷ k ∷ []) s
+scalar-first h = record { down = λ v l w. scalar-down w h; stands = λ j v l n w. scalar-set w h j n }
+
+pub vector-first : {s : List ℕ} {k m i : ℕ} → HeadOf s 0 (Vector m i) → FirstAs k i (‘T’ ∷ ‘v’ ∷ m ∷ ‘T’ ∷ ‘s’ ∷ k ∷ []) s
+vector-first h = record { down = λ v l w. vector-down w h; stands = λ j v l n w. vector-set w h j n }
 
 -- ---- "float, AbstractInt becoming AbstractFloat"
 

@@ -8,18 +8,18 @@ use lib.Dec.{T}
 use lib.ListN.{length}
 use Rattle.meaning.specs.Kinds.{Kind, kindNo, kindOf, isAbstract}
 use Rattle.meaning.specs.Scalars.{Stage, some?}
-use Rattle.meaning.specs.Trees.{Ty, Ts, Val, Vm, typeOf, leaf, inner}
+use Rattle.meaning.specs.Trees.{Ty, Ts, Val, Vm, typeOf, leaf, setLeaf, inner}
 use Rattle.meaning.specs.Answers.{Result, ok, _>>=_, _>>_, orNo, all, allSome}
 use Rattle.meaning.specs.Convert.{convVal, convLits, common, floatKind}
-use Rattle.meaning.specs.Build.{ctorLit, matShape, payloadsOfAll, toInner, matParts, matOne, qmParts, qmOne}
+use Rattle.meaning.specs.Build.{ctorLit, matShape, payloadsOfAll, litKind, toInner, matParts, matOne, qmParts, qmOne}
 use Rattle.meaning.specs.Entries.{stageOf}
 use Rattle.kind.specs.Ends.{ofKind}
 use Rattle.ty.specs.Stands.{Stands}
-use Rattle.ty.specs.declared.Head.the-variants.{Scalar, Vector}
-use Rattle.call.specs.Row.{Row, HeadOf}
+use Rattle.call.specs.Row.{Row}
 use Rattle.call.specs.Told.{Builds}
 use Rattle.call.specs.declared.Written.{Written}
 use Rattle.matrix.specs.declared.Inner.{Inner}
+use Rattle.matrix.specs.declared.Inner.the-variants as inner-kind
 use Rattle.matrix.specs.Shapes.{innerOf}
 
 -- at least one argument, and how many there are
@@ -29,12 +29,10 @@ pub record SomeGiven (s : List ℕ) (count : ℕ) : Type 0 where
   pub row : Row s 0 (value ∷ others)
   pub size : count ≡ length (value ∷ others)
 
--- the first is a scalar of the kind whose number is i; a vector of n of that kind
-abbrev pub ScalarFirst : List ℕ → ℕ → Type 0
-ScalarFirst s i = HeadOf s 0 (Scalar i)
-
-abbrev pub VectorFirst : List ℕ → ℕ → ℕ → Type 0
-VectorFirst s n i = HeadOf s 0 (Vector n i)
+-- the kind one level down in the first one's type, "or in its place if it is a scalar", is the one whose number is i; ty is the record of that type with k there
+pub record FirstAs (k i : ℕ) (ty s : List ℕ) : Type 0 where
+  pub down : (v : Val) (l : List Val) → Row s 0 (v ∷ l) → inner-kind.Kind i ≡ innerOf (litKind (inner (typeOf v)))
+  pub stands : (j : Kind) (v : Val) (l : List Val) → k ≡ kindNo j → Row s 0 (v ∷ l) → Stands 15 ty 0 (setLeaf j (typeOf v)) (length ty)
 
 -- ---- a matrix type
 

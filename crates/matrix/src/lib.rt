@@ -17,7 +17,7 @@ ghost use Rattle.conv.specs.Writers.{Put};
 ghost use Rattle.made.specs.Made.{OneArg};
 ghost use Rattle.matrix.specs.Columns.{SomeFront, SkipsTo, ColumnRoom, ColumnPut, Scalars, ScalarsRoom, ScalarsPut, Vectors, RoomFor, SomeMatrix, Hands};
 ghost use Rattle.matrix.specs.Shapes.{ShapeIs, ElementIs, InnerIs, SomeParts, PartsMade};
-ghost use Rattle.matrix.specs.Asked.{floatOf, GoesDown, SomeGiven, ScalarFirst, VectorFirst, SomeTo, ToMade, MatParts, QmKind, SomeTyped, QmMade, QmParts, SomeMatrixArg, Remade, MatOne, QmOne};
+ghost use Rattle.matrix.specs.Asked.{floatOf, GoesDown, SomeGiven, FirstAs, SomeTo, ToMade, MatParts, QmKind, SomeTyped, QmMade, QmParts, SomeMatrixArg, Remade, MatOne, QmOne};
 
 // What the arguments of a matrix are, once their type and their number are right; or the refusal.
 enum Shape {
@@ -241,45 +241,27 @@ fn mat_to(c: u8, r: u8, k: u8, ty: &[u8], args: &[u8], count: usize, out: &mut [
     of_parts(c, r, k, ty, args, count, out)
 }
 
-// The arguments where the first is a scalar of the kind j: the type that all have to convert to is the target's scalar.
-fn mat_scalars(c: u8, r: u8, k: u8, j: u8, args: &[u8], count: usize, out: &mut [u8]) -> Written
-    requires { ⌜ T (floatNumber k) ⌝ }
-    requires { ⌜ SomeGiven (now args) count ⌝ }
-    requires { ⌜ ScalarFirst (now args) j ⌝ }
-    ensures { λ x. ⌜ MatParts c r k (now (args .entry)) count (now (out .entry)) x (now (out .exit)) ⌝ }
-{
-    match literal::kind_rank(j, k) {
-        Rank::At(_) => {
-            let ty = [b'T', b's', k];
-            mat_to(c, r, k, &ty, args, count, out)
-        }
-        Rank::Never => Written::Refused(7),
-    }
-}
-
-// The arguments where the first is a vector of n of the kind j: the type that all have to convert to is the vector of n of the target's scalar.
-fn mat_vectors(
+// The arguments where the kind of the first one's type is j, and `ty` is that type's record with the target's kind in its place: "7 if that doesn't convert", else
+// that is the type that all have to convert to.
+fn mat_by(
     c: u8,
     r: u8,
     k: u8,
-    n: u8,
     j: u8,
+    ty: &[u8],
     args: &[u8],
     count: usize,
     out: &mut [u8],
 ) -> Written
     requires { ⌜ T (floatNumber k) ⌝ }
     requires { ⌜ SomeGiven (now args) count ⌝ }
-    requires { ⌜ VectorFirst (now args) n j ⌝ }
+    requires { ⌜ FirstAs k j (now ty) (now args) ⌝ }
     ensures { λ x. ⌜ MatParts c r k (now (args .entry)) count (now (out .entry)) x (now (out .exit)) ⌝ }
 {
-    match literal::kind_rank(j, k) {
-        Rank::At(_) => {
-            let ty = [b'T', b'v', n, b'T', b's', k];
-            mat_to(c, r, k, &ty, args, count, out)
-        }
-        Rank::Never => Written::Refused(7),
+    if !conv::kind_converts(j, k) {
+        return Written::Refused(7);
     }
+    mat_to(c, r, k, ty, args, count, out)
 }
 
 // The arguments whatever the first is: its type is derived. The last byte of a type's record is its kind, which becomes the target's.
@@ -306,8 +288,14 @@ pub fn mat_parts(c: u8, r: u8, k: u8, args: &[u8], count: usize, out: &mut [u8])
     ensures { λ x. ⌜ MatParts c r k (now (args .entry)) count (now (out .entry)) x (now (out .exit)) ⌝ }
 {
     match call::head_of(args, 0) {
-        Head::Scalar(j) => mat_scalars(c, r, k, j, args, count, out),
-        Head::Vector(n, j) => mat_vectors(c, r, k, n, j, args, count, out),
+        Head::Scalar(j) => {
+            let ty = [b'T', b's', k];
+            mat_by(c, r, k, j, &ty, args, count, out)
+        }
+        Head::Vector(n, j) => {
+            let ty = [b'T', b'v', n, b'T', b's', k];
+            mat_by(c, r, k, j, &ty, args, count, out)
+        }
         Head::Matrix(_, _, _) => mat_others(c, r, k, args, count, out),
         Head::Array(_) => mat_others(c, r, k, args, count, out),
         Head::Struct(_, _) => mat_others(c, r, k, args, count, out),

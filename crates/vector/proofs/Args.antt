@@ -54,8 +54,8 @@ pub record IsLiteral (s : List ℕ) (i : ℕ) (v : Val) : Type 0 where
   pub good : T (goodLit kind pay)
 
 module _ {s : List ℕ} {i : ℕ} {v : Val} (x : IsLiteral s i v) where
-  pub literal-bits : {w b : ℕ} → w ≡ widthOf (getD s (i + 2) 0) → b ≡ numberAt s (i + 3) w → b ≡ x .pay
-  literal-bits e f = f ∙ (ap (numberAt s (i + 3)) e ∙ x .num)
+  pub literal-bits : {b : ℕ} → b ≡ numberAt s (i + 3) (widthOf (getD s (i + 2) 0)) → b ≡ x .pay
+  literal-bits f = f ∙ x .num
 
   pub literal-good : {b : ℕ} → b ≡ x .pay → T (goodLit (x .kind) b)
   literal-good q = rw q (x .good)

@@ -73,8 +73,7 @@ pub fn qv_one(n: u8, args: &[u8], out: &mut [u8]) -> Written
     let mark = args[1];
     if mark == b's' {
         let k = args[2];
-        let scalar = Scalar { kind: k };
-        let bits = conv::get_le(args, 3, scalar.width());
+        let bits = conv::payload_at(args, 0);
         return repeated(n, k, bits, out);
     }
     if mark == b'v' {
@@ -93,10 +92,7 @@ fn splat(n: u8, k: u8, args: &[u8], out: &mut [u8]) -> Written
     requires { ⌜ getD (now args) 1 0 ≡ ‘s’ ⌝ }
     ensures { λ r. ⌜ Splats n k (now (args .entry)) (now (out .entry)) r (now (out .exit)) ⌝ }
 {
-    let j = args[2];
-    let scalar = Scalar { kind: j };
-    let bits = conv::get_le(args, 3, scalar.width());
-    match literal::convert_literal(k, j, bits) {
+    match literal::convert_literal(k, args[2], conv::payload_at(args, 0)) {
         Converted::To(p) => repeated(n, k, p, out),
         Converted::Unfit => Written::Refused(9),
     }

@@ -1,10 +1,6 @@
--- The payload is as wide as the kind says.
+-- The payload is the one that stands there.
 use mathlib.Core.Path.{_∙_}
-use native.Mathlib.Omega.{arith}
 use borrow.Author.Needs.{needs}
-use lib.ListN.{getD}
-use Prim.Native.Nat.{_+_}
-use Rattle.conv.proofs.Bytes.{width-small}
 use Rattle.made.proofs.made_at.Statement.{statement}
 use Rattle.made.proofs.made_at.Tie as tie
 
@@ -12,19 +8,13 @@ pub made-at-spec : {M : Type 1} → statement M
 made-at-spec =
     tie.close
     (tie.spec
-    -- add-j
+    -- add-construct-literal
     (λ c. search needs)
-    -- shared-slice-read-j
+    -- shared-slice-read-construct-literal
     (λ c. search needs)
-    -- add-get-le
-    (λ c. search needs)
-    -- width-requires
+    -- payload-at-requires
     (λ c κs. search needs)
-    -- get-le-requires
-    (λ c κs.
-    let a = c .before .before .before .args in
-    (omega (arith, c .width .ensures, width-small (getD (a .src .now) (a .i + 2) 0)), omega (arith, c .width .ensures)))
     -- construct-literal-requires
     (λ c κs. search needs)
     -- returns
-    (λ c. c .construct-literal .ensures ∙ (rw (c .before .get-le .ensures, c .before .before .width .ensures))))
+    (λ c. c .construct-literal .ensures ∙ (rw (c .before .payload-at .ensures))))

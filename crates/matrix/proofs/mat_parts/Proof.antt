@@ -3,6 +3,7 @@ use mathlib.Core.Path.{subst}
 use borrow.Author.Needs.{needs}
 use Rattle.ty.specs.declared.Head.{Head}
 use Rattle.call.specs.Row.{HeadOf}
+use Rattle.matrix.proofs.Parts.{scalar-first, vector-first}
 use Rattle.matrix.proofs.mat_parts.Statement.{statement}
 use Rattle.matrix.proofs.mat_parts.Tie as tie
 
@@ -14,12 +15,20 @@ mat-parts-spec =
     (λ c κs. search needs)
     -- enum-known-j
     (λ c. search needs)
-    -- mat-scalars-requires
-    (λ c κs. let p = c .before .before .before .before .before .before .before .pre in (p .0 .2, (p .1, subst (λ (r : Head). HeadOf (c .before .before .before .before .before .before .before .args .args .now) 0 r) (c .before .before .j .given .1) (c .before .before .before .before .head-of .ensures))))
+    -- slice-aggregate-mat-by
+    (λ c. search needs)
+    -- mat-by-requires
+    (λ c κs.
+    let p = c .before .before .before .before .before .before .before .before .pre in
+    (p .0 .2, (p .1, scalar-first (subst (λ (r : Head). HeadOf (c .before .before .before .before .before .before .before .before .args .args .now) 0 r) (c .before .before .before .j .given .1) (c .before .before .before .before .before .head-of .ensures)))))
     -- enum-known-n
     (λ c. search needs)
-    -- mat-vectors-requires
-    (λ c κs. let p = c .before .before .before .before .before .before .before .pre in (p .0 .2, (p .1, subst (λ (r : Head). HeadOf (c .before .before .before .before .before .before .before .args .args .now) 0 r) (c .before .before .n .given .1) (c .before .before .before .before .head-of .ensures))))
+    -- slice-aggregate-mat-by-2
+    (λ c. search needs)
+    -- mat-by-requires-2
+    (λ c κs.
+    let p = c .before .before .before .before .before .before .before .before .pre in
+    (p .0 .2, (p .1, vector-first (subst (λ (r : Head). HeadOf (c .before .before .before .before .before .before .before .before .args .args .now) 0 r) (c .before .before .before .n .given .1) (c .before .before .before .before .before .head-of .ensures)))))
     -- enum-told
     (λ c. search needs)
     -- mat-others-requires

@@ -1,8 +1,6 @@
 -- A literal is repeated, a vector of that length kept, anything else is one part.
 use native.Mathlib.Omega.{arith}
 use borrow.Author.Needs.{needs}
-use lib.ListN.{getD}
-use Rattle.conv.proofs.Bytes.{width-small}
 use Rattle.call.proofs.Answers.{builds-as, builds-no, builds-miscount}
 use Rattle.vector.proofs.Args.{arg-front, arg-literal, arg-vector, arg-other, literal-bits, literal-good}
 use Rattle.vector.proofs.Ones.{qv-literal, qv-other-length, qv-length, qv-other}
@@ -17,21 +15,17 @@ qv-one-spec =
     (λ c. omega (arith, arg-front (c .before .before .before .pre .1 .row)))
     -- shared-slice-read-k
     (λ c. omega (arith, arg-front (c .before .before .before .before .before .pre .1 .row)))
-    -- width-requires
-    (λ c κs. search needs)
-    -- get-le-requires
-    (λ c κs.
-    let x = arg-literal (c .before .before .before .before .before .before .pre .1 .row) (c .before .before .if1 .taken) in
-    (omega (arith, c .width .ensures, width-small (getD (c .before .before .before .before .before .before .args .args .now) 2 0)), omega (arith, c .width .ensures, x .room)))
+    -- payload-at-requires
+    (λ c κs. omega (arith, arg-literal (c .before .before .before .before .before .pre .1 .row) (c .before .if1 .taken) .room))
     -- repeated-requires
-    (λ c κs. let x = arg-literal (c .before .before .before .before .before .before .before .before .pre .1 .row) (c .before .before .before .before .if1 .taken) in record { kind = x .kind; no = x .no })
+    (λ c κs. let x = arg-literal (c .before .before .before .before .before .before .before .pre .1 .row) (c .before .before .before .if1 .taken) in record { kind = x .kind; no = x .no })
     -- same-length
     (λ c. search needs)
     -- returns
     (λ c v x.
-    let a = c .before .before .before .before .before .before .before .before .before .before .before .args in
-    let y = arg-literal x (c .before .before .before .before .before .before .before .if1 .taken) in
-    let q = literal-bits y (c .before .before .before .before .before .width .ensures) (c .before .before .before .before .get-le .ensures) in
+    let a = c .before .before .before .before .before .before .before .before .before .before .args in
+    let y = arg-literal x (c .before .before .before .before .before .before .if1 .taken) in
+    let q = literal-bits y (c .before .before .before .before .payload-at .ensures) in
     builds-as (a .out .now) (qv-literal (a .n) y q) (c .before .before .repeated .ensures (y .kind) (y .no) (literal-good y q)))
     -- shared-slice-read-if3
     (λ c. omega (arith, arg-front (c .before .before .before .before .before .before .pre .1 .row)))

@@ -1,8 +1,6 @@
 -- The literal converts and is repeated, or it does not.
 use native.Mathlib.Omega.{arith}
 use borrow.Author.Needs.{needs}
-use lib.ListN.{getD}
-use Rattle.conv.proofs.Bytes.{width-small}
 use Rattle.call.proofs.Answers.{builds-as, builds-no}
 use Rattle.vector.proofs.Args.{arg-front, arg-literal, literal-bits}
 use Rattle.vector.proofs.Ones.{vec-unfit, vec-splat, splat-in}
@@ -13,34 +11,30 @@ pub splat-spec : {M : Type 1} → statement M
 splat-spec =
     tie.close
     (tie.spec
-    -- shared-slice-read-j
+    -- shared-slice-read-convert-literal
     (λ c. omega (arith, arg-front (c .before .before .before .pre .1 .0 .row)))
-    -- width-requires
-    (λ c κs. search needs)
-    -- get-le-requires
-    (λ c κs.
-    let p = c .before .before .before .before .pre .1 in
-    (omega (arith, c .width .ensures, width-small (getD (c .before .before .before .before .args .args .now) 2 0)), omega (arith, c .width .ensures, arg-literal (p .0 .row) (p .1) .room)))
+    -- payload-at-requires
+    (λ c κs. let p = c .before .before .before .pre .1 in omega (arith, arg-literal (p .0 .row) (p .1) .room))
     -- convert-literal-requires
     (λ c κs. search needs)
     -- enum-known-p
     (λ c. search needs)
     -- repeated-requires
-    (λ c κs. c .before .before .before .before .before .before .before .before .before .before .pre .0)
+    (λ c κs. c .before .before .before .before .before .before .before .before .before .pre .0)
     -- enum-told
     (λ c. search needs)
     -- same-length
     (λ c. search needs)
     -- returns
     (λ c s j v e x.
-    let a = c .before .before .before .before .before .before .before .before .before .before .before .before .before .args in
-    let y = arg-literal x (c .before .before .before .before .before .before .before .before .before .before .before .before .before .pre .1 .1) in
-    let q = literal-bits y (c .before .before .before .before .before .before .before .before .before .width .ensures) (c .before .before .before .before .before .before .before .before .get-le .ensures) in
+    let a = c .before .before .before .before .before .before .before .before .before .before .before .before .args in
+    let y = arg-literal x (c .before .before .before .before .before .before .before .before .before .before .before .before .pre .1 .1) in
+    let q = literal-bits y (c .before .before .before .before .before .before .before .before .payload-at .ensures) in
     let h = c .before .before .before .before .before .before .before .convert-literal .ensures in
     let g = c .before .before .before .before .before .p .given .1 in
     builds-as (a .out .now) (vec-splat y j e q h g s (a .n)) (c .before .before .repeated .ensures j e (splat-in y j e q h g)))
     -- returns-2
     (λ c s j v e x.
-    let a = c .before .before .before .before .before .before .before .before .args in
-    let y = arg-literal x (c .before .before .before .before .before .before .before .before .pre .1 .1) in
-    builds-no (a .out .now) 9 (vec-unfit y j e (literal-bits y (c .before .before .before .before .width .ensures) (c .before .before .before .get-le .ensures)) (c .before .before .convert-literal .ensures) (c .enum-told .given .1) s (a .n))))
+    let a = c .before .before .before .before .before .before .before .args in
+    let y = arg-literal x (c .before .before .before .before .before .before .before .pre .1 .1) in
+    builds-no (a .out .now) 9 (vec-unfit y j e (literal-bits y (c .before .before .before .payload-at .ensures)) (c .before .before .convert-literal .ensures) (c .enum-told .given .1) s (a .n))))
