@@ -8,4 +8,3 @@ pub mod Writes
 pub mod Typings
 pub mod Rest
 pub mod Skips
-pub mod Has

@@ -4,27 +4,8 @@ use mathlib.Core.List.{List, _++_}
 use Prim.Native.Nat.{ℕ, zero, suc, _+_, _≤_}
 use lib.Dec.{T}
 use lib.ListN.{length, drop}
-use Rattle.meaning.specs.Trees.{Ty, Tys, [·], _▸_, Val, Vals, typeOf, typesOf, depth, depths, tysList, countVals}
+use Rattle.meaning.specs.Trees.{Ty, Tys, [·], _▸_, Val, Vals, typeOf, typesOf, depth, depths, tysList}
 use Rattle.meaning.specs.Records.{valBytes, valsBytes, shapedVal, shapedVals, shapedTy, shapedTys}
-
--- the record of the value v, whose type has depth d at most, stands in s from `at` up to e
-pub record Has (d : ℕ) (s : List ℕ) (at : ℕ) (v : Val) (e : ℕ) : Type 0 where
-  pub here : drop at s ≡ valBytes v ++ drop e s
-  pub size : e ≡ at + length (valBytes v)
-  pub within : e ≤ length s
-  pub shaped : T (shapedVal v)
-  pub typed : T (shapedTy (typeOf v))
-  pub deep : depth (typeOf v) ≤ d
-
--- those of n values, one after another
-pub record HasAll (d : ℕ) (s : List ℕ) (at n : ℕ) (l : Vals) (e : ℕ) : Type 0 where
-  pub here : drop at s ≡ valsBytes l ++ drop e s
-  pub size : e ≡ at + length (valsBytes l)
-  pub within : e ≤ length s
-  pub shaped : T (shapedVals l)
-  pub typed : T (shapedTys (typesOf l))
-  pub deep : depths (typesOf l) ≤ d
-  pub count : countVals l ≡ n
 
 -- some value of the type t stands there
 pub record Fits (s : List ℕ) (at : ℕ) (t : Ty) (e : ℕ) : Type 0 where

@@ -8,7 +8,7 @@ use native.Mathlib.Omega.{arith}
 use lib.Dec.{T, leb}
 use lib.ListN.{length, drop, set, length-append, length-set}
 use lib.Seq.{set-at, drop-set-lt}
-use Rattle.meaning.specs.Kinds.{Kind, kindNo, kindOf, kindRank, isFloat, sameKind}
+use Rattle.meaning.specs.Kinds.{Kind, kindNo, kindOf, isFloat, sameKind}
 use Rattle.meaning.specs.Scalars.{some?}
 use Rattle.meaning.specs.Trees.{Ty, Ts, Tv, Tm, Ta, Tu, depth, leaf, setLeaf, inner}
 use Rattle.meaning.specs.Records.{tyBytes, shapedTy, side, u16}
@@ -17,13 +17,11 @@ use Rattle.meaning.specs.Build.{litKind, toInner}
 use Rattle.laws.proofs.AgreeConv.{none-some}
 use Rattle.laws.proofs.AgreeLit.{kind-back}
 use Rattle.laws.proofs.AgreeMat.{Down, down}
-use Rattle.laws.proofs.AgreeVec.{converts-lit, not-to-scalar}
+use Rattle.laws.proofs.AgreeVec.{not-to-scalar}
 use Rattle.laws.proofs.Back.{and-l, and-r}
 use Rattle.laws.proofs.Same.{both}
 use Rattle.laws.proofs.Sound.{kind-no}
 use Rattle.kind.specs.Ends.{ofKind}
-use Rattle.literal.specs.Told.{rankOf, rankBetween}
-use Rattle.literal.specs.declared.Rank.the-variants.{At, Never}
 use Rattle.ty.specs.Stands.{Stands}
 use Rattle.ty.specs.Fronts.{floatNumber}
 use Rattle.ty.proofs.Leaves.{leaf-last}
@@ -53,20 +51,6 @@ lit-is (Tm c r j) h = absurd (none-some h)
 lit-is (Ta n t) h = absurd (none-some h)
 lit-is (Tu i m) h = absurd (none-some h)
 
-between : {i k : ℕ} (a b : Kind) → i ≡ kindNo a → k ≡ kindNo b → rankBetween i k ≡ kindRank a b
-unfolding rankBetween ofKind
-between a b p q = rw (p, q, kind-back a, kind-back b)
-
-rank-some : (o : Option ℕ) {m : ℕ} → At m ≡ rankOf o → true ≡ some? o
-unfolding rankOf some?
-rank-some none h = absurd (let z : _≡_ {A = ℕ} 0 1 = cc in omega arith)
-rank-some (some n) h = refl
-
-rank-none : (o : Option ℕ) → Never ≡ rankOf o → false ≡ some? o
-unfolding rankOf some?
-rank-none none h = refl
-rank-none (some n) h = absurd (let z : _≡_ {A = ℕ} 0 1 = cc in omega arith)
-
 down-by : (j : Kind) (t : Ty) → some? (toInner j t) ≡ converts (inner t) (Ts j)
 unfolding toInner some?
 down-by j t = go (converts (inner t) (Ts j))
@@ -76,16 +60,9 @@ down-by j t = go (converts (inner t) (Ts j))
     go false = refl
 
 module _ {k : ℕ} (j : Kind) (n : k ≡ kindNo j) (t : Ty) where
-  by-rank : {i : ℕ} → inner-kind.Kind i ≡ innerOf (litKind (inner t)) → some? (toInner j t) ≡ some? (rankBetween i k)
-  by-rank {i} h =
-      let y = kind-some i (litKind (inner t)) h in
-      down-by j t ∙ (ap (λ (u : Ty). converts u (Ts j)) (lit-is (inner t) (y .is)) ∙ (converts-lit (y .kind) j ∙ ap some? (sym (between (y .kind) j (y .no) n))))
-
-  pub down-yes : {i m : ℕ} → inner-kind.Kind i ≡ innerOf (litKind (inner t)) → At m ≡ rankOf (rankBetween i k) → true ≡ some? (toInner j t)
-  down-yes {i} h q = rank-some (rankBetween i k) q ∙ sym (by-rank h)
-
-  pub down-no : {i : ℕ} → inner-kind.Kind i ≡ innerOf (litKind (inner t)) → Never ≡ rankOf (rankBetween i k) → false ≡ some? (toInner j t)
-  down-no {i} h q = rank-none (rankBetween i k) q ∙ sym (by-rank h)
+  -- by whether the kind one level down converts
+  pub by-kind : {i : ℕ} → inner-kind.Kind i ≡ innerOf (litKind (inner t)) → {b : Bool} → KindConverts i k b → b ≡ some? (toInner j t)
+  by-kind {i} h f = let y = kind-some i (litKind (inner t)) h in f (y .kind) j (y .no) n ∙ sym (down-by j t ∙ ap (λ (u : Ty). converts u (Ts j)) (lit-is (inner t) (y .is)))
 
   pub down-other : inner-kind.Other ≡ innerOf (litKind (inner t)) → false ≡ some? (toInner j t)
   down-other h = sym (down-by j t ∙ not-to-scalar (inner t) j (kind-none (litKind (inner t)) h))
@@ -113,16 +90,13 @@ goes-to j t h = go (toInner j t) refl h
         let d = down j t u e in
         record { into = e ∙ ap some (sym (d .is)); down = record { kind = d .kind; at = d .at; is = refl; ranks = d .ranks } }
 
--- by whether the kind one level down converts
+-- the same, of the kind one level down and whether it converts
 module _ {k : ℕ} (j : Kind) (n : k ≡ kindNo j) (t : Ty) {i : ℕ} (h : inner-kind.Kind i ≡ innerOf (litKind (inner t))) {b : Bool} (f : KindConverts i k b) where
-  by-kind : b ≡ some? (toInner j t)
-  by-kind = let y = kind-some i (litKind (inner t)) h in f (y .kind) j (y .no) n ∙ sym (down-by j t ∙ ap (λ (u : Ty). converts u (Ts j)) (lit-is (inner t) (y .is)))
-
   pub kind-stays : b ≡ false → toInner j t ≡ none
-  kind-stays e = goes-no j t (sym e ∙ by-kind)
+  kind-stays e = goes-no j t (sym e ∙ by-kind j n t h f)
 
   pub kind-goes : b ≡ true → GoesTo j t
-  kind-goes e = goes-to j t (sym e ∙ by-kind)
+  kind-goes e = goes-to j t (sym e ∙ by-kind j n t h f)
 
 -- ---- "float, AbstractInt becoming AbstractFloat"
 

@@ -2,7 +2,6 @@
 use call::Written;
 use kind::Scalar;
 use lists::Common;
-use literal::Rank;
 use ty::Head;
 ghost use mathlib.Core.Path.{_≡_};
 ghost use mathlib.Core.List.{[], _∷_};
@@ -222,10 +221,7 @@ fn goes_down(ty: &[u8], k: u8) -> bool
     ensures { λ x. ⌜ GoesDown k (now (ty .entry)) x ⌝ }
 {
     match inner_kind(ty) {
-        Inner::Kind(j) => match literal::kind_rank(j, k) {
-            Rank::At(_) => true,
-            Rank::Never => false,
-        },
+        Inner::Kind(j) => conv::kind_converts(j, k),
         Inner::Other => false,
     }
 }
