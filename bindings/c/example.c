@@ -1,5 +1,5 @@
 /* The printed case of document 01: vec2<f32> of the AbstractInt 1, at stage Const, and the same as `i32` arrays with too few elements.
- * gcc -I bindings/c -o example bindings/c/example.c target/staticlib/libcapi.a */
+ * gcc -I bindings/c -o example bindings/c/example.c target/staticlib/libvireodesk.a */
 #include <inttypes.h>
 #include <stdio.h>
 

@@ -1,4 +1,4 @@
-/* Vireodesk: WGSL constructor evaluation on byte records. Link target/staticlib/libcapi.a, which `rt staticlib capi` makes.
+/* Vireodesk: WGSL constructor evaluation on byte records. Link target/staticlib/libvireodesk.a, which `rt staticlib vireodesk` makes.
  *
  * What is promised of every function here, for every input, and proved (docs/TRUST.md):
  * - Nothing is asked of the bytes. Target and arguments may be anything, of any length, also none; a malformed target is refusal 1, malformed arguments are 2.
@@ -37,7 +37,7 @@ enum { VIREO_CONST = 0, VIREO_OVERRIDE = 1, VIREO_EXEC = 2 };
 struct vireo_answer vireo_call_ctor(uint8_t stage, const uint8_t *target, size_t target_len, const uint8_t *args, size_t args_len, uint8_t *out, size_t out_len);
 
 /* Typing: the type of what the target's constructor makes, from the types of its arguments, type records one after another. The result is a type record.
- * Refusals in this order: 1, 2, then the rules' own, then 22. Its 8 gives the number of arguments. Typing and building agree: crates/demand/specs/Entries.antt. */
+ * Refusals in this order: 1, 2, then the rules' own, then 22. Its 8 gives the number of arguments. Typing and building agree: crates/third_demand/specs/Entries.antt. */
 struct vireo_answer vireo_type_ctor(const uint8_t *target, size_t target_len, const uint8_t *args, size_t args_len, uint8_t *out, size_t out_len);
 
 /* Conversion without a constructor: the one value that the arguments are, as the target's type. The result is a value record. Refusals: 1 (also for a shape), 2 (also for

@@ -5,14 +5,14 @@ fn main() {
     println!("cargo:rerun-if-env-changed=VIREO_LIB");
     let root = env::var_os("CARGO_MANIFEST_DIR").expect("cargo names the crate's directory");
     let directory = env::var_os("VIREO_LIB").unwrap_or_else(|| "../../target/staticlib".into());
-    let library = Path::new(&root).join(directory).join("libcapi.a");
+    let library = Path::new(&root).join(directory).join("libvireodesk.a");
     // Named even where it is missing, so that the build runs again once it is there.
     println!("cargo:rerun-if-changed={}", library.display());
     let Ok(library) = library.canonicalize() else {
         eprintln!("{} is missing.", library.display());
-        eprintln!("Run `rt staticlib capi` at the root of the repository, or set VIREO_LIB to the directory that has libcapi.a.");
+        eprintln!("Run `rt staticlib vireodesk` at the root of the repository, or set VIREO_LIB to the directory that has libvireodesk.a.");
         process::exit(1);
     };
     println!("cargo:rustc-link-search=native={}", library.parent().expect("a file lies in a directory").display());
-    println!("cargo:rustc-link-lib=static=capi");
+    println!("cargo:rustc-link-lib=static=vireodesk");
 }

@@ -1,6 +1,6 @@
 -- An array: its count and its element type in the target, what the arguments become, and its record.
 use mathlib.Core.Path.{_≡_, refl, sym, ap, _∙_}
-use mathlib.Core.Option.{Option, none, some}
+use mathlib.Core.Option.{none, some}
 use mathlib.Core.List.{List, [], _∷_, _++_, map}
 use mathlib.Core.Bool.{Bool, true, false, _&&_}
 use Prim.Native.Nat.{ℕ, _+_, _*_, _≤_}
@@ -22,16 +22,16 @@ use Rattle.ty.specs.Stands.{Stands}
 use Rattle.ty.proofs.Heads.{ArrayIs, array-by}
 use Rattle.ty.proofs.Targets.{whole-bytes}
 use Rattle.conv.specs.Ranked.{Whole}
-use Rattle.conv.specs.Writers.{Put}
-use Rattle.conv.proofs.Bytes.{put-put}
-use Rattle.call.specs.Told.{Builds}
-use Rattle.call.specs.declared.Written.the-variants.{Record, Refused}
-use Rattle.call.proofs.Answers.{builds-long, builds-record}
-use Rattle.call.proofs.Rows.{each-ok}
-use Rattle.lists.proofs.Laws.{all-shaped, all-typed, all-count}
+use Rattle.record.specs.Bytes.{Put}
+use Rattle.record.proofs.Puts.{put-put}
+use Rattle.error.specs.Told.{Builds}
+use Rattle.error.specs.declared.Written.the-variants.{Record, Refused}
+use Rattle.error.proofs.BufferAtExit.{builds-long, builds-record}
+use Rattle.args.proofs.ArgumentRows.{each-ok}
+use Rattle.convert_all.proofs.ConvertedLists.{all-shaped, all-typed, all-count}
 use Rattle.array.specs.Arrays.{Elements}
 use Rattle.array.proofs.Lengths.{room-no, room-yes}
-use Rattle.array.proofs.Pairs.{none-of}
+use Rattle.shape.proofs.Downs.{some-of, none-of}
 
 -- ---- the target
 
@@ -104,20 +104,15 @@ pub record Become (t : Ty) (l : List Val) : Type 0 where
 
 module _ (t : Ty) (l : List Val) where
   pub become : some? (allSome (convVal t) l) ≡ true → Become t l
-  unfolding some?
-  become h = go (allSome (convVal t) l) refl h
-    where
-      go : (o : Option (List Val)) → allSome (convVal t) l ≡ o → some? o ≡ true → Become t l
-      go none q u = absurd (let z : _≡_ {A = ℕ} 0 1 = cc in omega arith)
-      go (some ws) q u = record { intos = ws; goes = q }
+  become h = let o = some-of (allSome (convVal t) l) (sym h) in record { intos = o .0; goes = o .1 }
 
   pub array-nine : (n : ℕ) → some? (allSome (convVal t) l) ≡ false → arrayOf n t l ≡ no 9
   unfolding arrayOf elements
-  array-nine n h = rw (none-of (allSome (convVal t) l) h)
+  array-nine n h = rw (none-of (allSome (convVal t) l) (sym h))
 
   pub runtime-nine : some? (allSome (convVal t) l) ≡ false → runtimeOf t l ≡ no 9
   unfolding runtimeOf elements
-  runtime-nine h = rw (none-of (allSome (convVal t) l) h)
+  runtime-nine h = rw (none-of (allSome (convVal t) l) (sym h))
 
   module _ (b : Become t l) where
     pub array-miscount : {n wanted count : ℕ} → wanted ≡ n → count ≡ length l → (count ≡ wanted → ⊥) → arrayOf n t l ≡ miscount wanted count
@@ -141,7 +136,7 @@ module _ (l : List Val) where
   module _ {t : Ty} (h : common (map typeOf l) ≡ some t) where
     pub qa-ten : some? (allSome (convVal t) l) ≡ false → qaOf l ≡ no 10
     unfolding qaOf
-    qa-ten q = rw (h, none-of (allSome (convVal t) l) q)
+    qa-ten q = rw (h, none-of (allSome (convVal t) l) (sym q))
 
     pub qa-ok : (b : Become t l) → qaOf l ≡ ok (Va (valsOf (b .intos)))
     unfolding qaOf

@@ -1,33 +1,27 @@
 -- The first member type and the first argument, and the others.
 use mathlib.Core.Path.{_≡_, refl, sym, ap, _∙_, subst}
-use mathlib.Core.Option.{Option, none, some}
+use mathlib.Core.Option.{none}
 use mathlib.Core.List.{List, [], _∷_}
 use mathlib.Core.Bool.{Bool, true, false}
 use Prim.Native.Nat.{ℕ, _+_, _-_, _<_}
 use native.Mathlib.Omega.{arith}
 use lib.Dec.{T}
 use lib.ListN.{length, take, drop, length-drop}
-use Rattle.meaning.specs.Scalars.{some?}
 use Rattle.meaning.specs.Trees.{Ty, Tys, [·], _▸_, Val, typeOf, tysList}
 use Rattle.meaning.specs.Records.{tyBytes, joined}
 use Rattle.meaning.specs.Convert.{converts, convVal}
-use Rattle.meaning.specs.Build.{memberwise}
 use Rattle.laws.proofs.AgreeConv.{conv-not}
 use Rattle.ty.specs.Stands.{Stands, StandAll, Standing}
 use Rattle.ty.proofs.Heads.{first-is}
 use Rattle.conv.specs.Ranked.{Whole}
 use Rattle.conv.specs.Values.{ValueTo, HasVal, ValueFits}
-use Rattle.call.specs.Row.{SomeArg, NextIs}
-use Rattle.call.proofs.Rows.{row-has, some-val}
-use Rattle.lists.specs.Lists.{ArgConverts}
-use Rattle.lists.proofs.Places.{cut-whole}
-use Rattle.array.specs.Members.{EndsAt, Pairs, MemberEnds}
-
--- nothing, by a test that failed
-pub none-of : {A : Type 0} (o : Option A) → some? o ≡ false → o ≡ none
-unfolding some?
-none-of none h = refl
-none-of (some a) h = absurd (let z : _≡_ {A = ℕ} 0 1 = cc in omega arith)
+use Rattle.shape.specs.TypeRows.{EndsAt}
+use Rattle.args.specs.Row.{SomeArg, NextIs}
+use Rattle.args.proofs.ArgumentRows.{row-has, some-val}
+use Rattle.convert_all.specs.Lists.{ArgConverts}
+use Rattle.shape.proofs.Places.{cut-whole}
+use Rattle.shape.proofs.Downs.{none-of}
+use Rattle.array.specs.Members.{Pairs, MemberEnds}
 
 module _ {target : List ℕ} {at : ℕ} {args : List ℕ} {i : ℕ} {t : Ty} {m : Tys} {v : Val} {l : List Val} (x : Pairs target at args i (t ▸ m) (v ∷ l)) where
   both : Stands 14 target at t (at + length (tyBytes t)) × StandAll 14 target (at + length (tyBytes t)) (length l) m (length target)
@@ -45,7 +39,7 @@ module _ {target : List ℕ} {at : ℕ} {args : List ℕ} {i : ℕ} {t : Ty} {m 
   pub pair-type : Standing 14 target at
   pair-type = record { type = t; end = at + length (tyBytes t); stands = both .0 }
 
-  module _ {q : ℕ} (f : EndsAt target at q) where
+  module _ {q : ℕ} (f : EndsAt 14 target at q) where
     pub pair-stands : Stands 14 target at t q
     pair-stands = subst (Stands 14 target at t) (sym (f t (at + length (tyBytes t)) (both .0))) (both .0)
 
@@ -64,7 +58,7 @@ module _ {target : List ℕ} {at : ℕ} {args : List ℕ} {i : ℕ} {t : Ty} {m 
   pair-more n = omega (arith, n .end, some-val v)
 
   -- whether it converts: the type, then the literals
-  module _ {q : ℕ} (f : EndsAt target at q) {a : Bool} (c : ArgConverts args i (take (q - at) (drop at target)) a) where
+  module _ {q : ℕ} (f : EndsAt 14 target at q) {a : Bool} (c : ArgConverts args i (take (q - at) (drop at target)) a) where
     type-is : a ≡ converts (typeOf v) t
     type-is = c v l t (x .row) (pair-part f)
 
@@ -77,22 +71,26 @@ module _ {target : List ℕ} {at : ℕ} {args : List ℕ} {i : ℕ} {t : Ty} {m 
 
       module _ {b : Bool} (g : ValueFits 14 target at args i e b) where
         pub fits-no : b ≡ false → convVal t v ≡ none
-        fits-no k = none-of (convVal t v) (sym (g t v fits-asked) ∙ k)
+        fits-no k = none-of (convVal t v) (sym k ∙ g t v fits-asked)
 
         pub fits-yes : b ≡ true → MemberEnds target args i t m v l e q
         fits-yes k = record { more = pair-more y; fits = sym (g t v fits-asked) ∙ k; rest = pair-rest f y }
 
--- where arguments are left, there is a member for the first
-pub record FirstPair (target : List ℕ) (at : ℕ) (args : List ℕ) (i : ℕ) (m : Tys) (l : List Val) : Type 0 where
-  pub type : Ty
-  pub types : Tys
-  pub value : Val
-  pub values : List Val
-  pub same : memberwise (tysList m) l ≡ memberwise (tysList (type ▸ types)) (value ∷ values)
-  pub pairs : Pairs target at args i (type ▸ types) (value ∷ values)
+-- ---- what is left decides, of members and arguments
 
-pub first-pair : {target : List ℕ} {at : ℕ} {args : List ℕ} {i : ℕ} (m : Tys) (l : List Val) → Pairs target at args i m l → i < length args → FirstPair target at args i m l
+-- from `at` and i on there are members and arguments of which Q holds
+pub record PairsLeft (target : List ℕ) (at : ℕ) (args : List ℕ) (i : ℕ) (Q : Tys → List Val → Type 0) : Type 0 where
+  pub types : Tys
+  pub values : List Val
+  pub pairs : Pairs target at args i types values
+  pub so : Q types values
+
+-- where arguments are left, there is a member for the first
+pub pairs-first : {target : List ℕ} {at : ℕ} {args : List ℕ} {i : ℕ} {Q : Tys → List Val → Type 0} → PairsLeft target at args i Q → i < length args → {P : Type 0} → ((t : Ty) (m : Tys) (v : Val) (l : List Val) → Pairs target at args i (t ▸ m) (v ∷ l) → Q (t ▸ m) (v ∷ l) → P) → P
 unfolding joined tysList
-first-pair {args = args} {i} m [] x h = absurd (omega (arith, length-drop i args, ap length (x .row .here)))
-first-pair [·] (v ∷ l) x h = absurd (omega (arith, x .types .count))
-first-pair (t ▸ m) (v ∷ l) x h = record { type = t; types = m; value = v; values = l; same = refl; pairs = x }
+pairs-first {target} {at} {args} {i} {Q} g h {P} k = go (g .types) (g .values) (g .pairs) (g .so)
+  where
+    go : (m : Tys) (l : List Val) → Pairs target at args i m l → Q m l → P
+    go m [] x q = absurd (omega (arith, length-drop i args, ap length (x .row .here)))
+    go [·] (v ∷ l) x q = absurd (omega (arith, x .types .count))
+    go (t ▸ m) (v ∷ l) x q = k t m v l x q

@@ -1,6 +1,6 @@
 -- A struct: its members' number and place in the target, what the arguments become, and its record.
 use mathlib.Core.Path.{_≡_, refl, sym, ap, _∙_, subst}
-use mathlib.Core.Option.{Option, none, some}
+use mathlib.Core.Option.{some}
 use mathlib.Core.List.{List, [], _∷_, _++_, map}
 use mathlib.Core.Bool.{Bool, true, false}
 use Prim.Native.Nat.{ℕ, _+_, _*_, _≤_}
@@ -25,16 +25,16 @@ use Rattle.ty.specs.Stands.{Standing}
 use Rattle.ty.proofs.Heads.{StructIs, struct-by}
 use Rattle.ty.proofs.Targets.{whole-bytes}
 use Rattle.conv.specs.Ranked.{Whole}
-use Rattle.conv.specs.Writers.{Put}
-use Rattle.conv.proofs.Bytes.{put-put}
-use Rattle.call.specs.Row.{Row}
-use Rattle.call.specs.Told.{Builds}
-use Rattle.call.specs.declared.Written.the-variants.{Record, Refused}
-use Rattle.call.proofs.Answers.{builds-long, builds-record}
-use Rattle.call.proofs.Rows.{each-ok}
+use Rattle.record.specs.Bytes.{Put}
+use Rattle.record.proofs.Puts.{put-put}
+use Rattle.args.specs.Row.{Row}
+use Rattle.error.specs.Told.{Builds}
+use Rattle.error.specs.declared.Written.the-variants.{Record, Refused}
+use Rattle.error.proofs.BufferAtExit.{builds-long, builds-record}
+use Rattle.args.proofs.ArgumentRows.{each-ok}
 use Rattle.array.specs.Members.{Pairs, Made}
 use Rattle.array.proofs.Lengths.{room-no, room-yes}
-use Rattle.array.proofs.Pairs.{none-of}
+use Rattle.shape.proofs.Downs.{some-of, none-of}
 
 -- ---- the target
 
@@ -145,13 +145,12 @@ module _ (i : ℕ) (m : Tys) (l : List Val) where
   module _ (n : length l ≡ length (tysList m)) where
     pub struct-no : some? (memberwise (tysList m) l) ≡ false → structOf i m l ≡ no 9
     unfolding structOf
-    struct-no h = rw (eq-eqb (length l) (length (tysList m)) n, none-of (memberwise (tysList m) l) h)
+    struct-no h = rw (eq-eqb (length l) (length (tysList m)) n, none-of (memberwise (tysList m) l) (sym h))
 
     -- what they become
     pub struct-yes : {target args : List ℕ} → Whole target (Tu i m) → Row args 0 l → some? (memberwise (tysList m) l) ≡ true → Goes i m l target args
-    unfolding structOf some?
-    struct-yes {target} {args} w r h = go (memberwise (tysList m) l) refl h
+    unfolding structOf
+    struct-yes {target} {args} w r h = let o = some-of (memberwise (tysList m) l) (sym h) in go (o .0) (o .1)
       where
-        go : (o : Option (List Val)) → memberwise (tysList m) l ≡ o → some? o ≡ true → Goes i m l target args
-        go none q u = absurd (let z : _≡_ {A = ℕ} 0 1 = cc in omega arith)
-        go (some ws) q u = record { intos = ws; made = record { struct = record { whole = w; row = r }; count = n; goes = q }; yes = rw (eq-eqb (length l) (length (tysList m)) n, q) }
+        go : (ws : List Val) → memberwise (tysList m) l ≡ some ws → Goes i m l target args
+        go ws q = record { intos = ws; made = record { struct = record { whole = w; row = r }; count = n; goes = q }; yes = rw (eq-eqb (length l) (length (tysList m)) n, q) }

@@ -10,9 +10,9 @@ use Rattle.meaning.specs.Convert.{convVal}
 use Rattle.meaning.specs.Build.{arrayOf, runtimeOf, qaOf}
 use Rattle.ty.specs.Stands.{Stands}
 use Rattle.conv.specs.Ranked.{Whole}
-use Rattle.call.specs.Row.{Row}
-use Rattle.call.specs.Told.{Builds}
-use Rattle.call.specs.declared.Written.{Written}
+use Rattle.args.specs.Row.{Row}
+use Rattle.error.specs.Told.{Builds}
+use Rattle.error.specs.declared.Written.{Written}
 
 -- the arguments are the values l, as many as is said, and no more than a record counts
 pub record Given (args : List ℕ) (count : ℕ) (l : List Val) : Type 0 where
@@ -64,8 +64,7 @@ pub record SomeRuntime (target args : List ℕ) (count : ℕ) : Type 0 where
   pub given : Given args count values
 
 abbrev pub RuntimeTold : List ℕ → List ℕ → ℕ → List ℕ → Written → List ℕ → Type 0
-RuntimeTold target args count out r out′ =
-    (t : Ty) (l : List Val) → Stands 14 target 2 t (length target) → Row args 0 l → 1 ≤ length l → length l ≤ 65535 → count ≡ length l → Builds (runtimeOf t l) out r out′
+RuntimeTold target args count out r out′ = (t : Ty) (l : List Val) → Stands 14 target 2 t (length target) → Given args count l → Builds (runtimeOf t l) out r out′
 
 -- ---- without a type
 
@@ -74,4 +73,4 @@ pub record SomeQa (args : List ℕ) (count : ℕ) : Type 0 where
   pub given : Given args count values
 
 abbrev pub QaTold : List ℕ → ℕ → List ℕ → Written → List ℕ → Type 0
-QaTold args count out r out′ = (l : List Val) → Row args 0 l → 1 ≤ length l → length l ≤ 65535 → count ≡ length l → Builds (qaOf l) out r out′
+QaTold args count out r out′ = (l : List Val) → Given args count l → Builds (qaOf l) out r out′

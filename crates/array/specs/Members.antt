@@ -11,18 +11,14 @@ use Rattle.meaning.specs.Records.{valBytes, joined}
 use Rattle.meaning.specs.Answers.{ok}
 use Rattle.meaning.specs.Convert.{convVal}
 use Rattle.meaning.specs.Build.{memberwise, structOf}
-use Rattle.ty.specs.Stands.{Stands, StandAll}
+use Rattle.ty.specs.Stands.{StandAll}
 use Rattle.conv.specs.Ranked.{Whole}
-use Rattle.conv.specs.Writers.{Put}
-use Rattle.call.specs.Row.{Row}
-use Rattle.call.specs.Told.{Builds}
-use Rattle.call.specs.declared.Written.{Written}
+use Rattle.record.specs.Bytes.{Put}
+use Rattle.args.specs.Row.{Row}
+use Rattle.error.specs.Told.{Builds}
+use Rattle.error.specs.declared.Written.{Written}
 use Rattle.array.specs.declared.Member.{Member}
 use Rattle.array.specs.declared.Member.the-variants.{Ends, Unfit}
-
--- the record of the member type at `at` ends there
-abbrev pub EndsAt : List ℕ → ℕ → ℕ → Type 0
-EndsAt target at r = (t : Ty) (e : ℕ) → Stands 14 target at t e → r ≡ e
 
 -- the member types m stand in the target from `at` up to its end, and as many values l in the arguments from i on
 pub record Pairs (target : List ℕ) (at : ℕ) (args : List ℕ) (i : ℕ) (m : Tys) (l : List Val) : Type 0 where

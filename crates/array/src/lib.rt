@@ -1,13 +1,13 @@
 // The source's `array` and its struct construction (ctor.rs, builtin/mod.rs) on records: decided first, then measured, then written.
-use call::Written;
-use lists::Common;
+use common_type::Common;
+use error::Refusal;
+use error::Written;
 use ty::Len;
-use ty::TypeEnd;
+use ty::Limit;
 ghost use Prim.Native.Nat.{_≤_, _+_, _*_};
-ghost use Rattle.ty.specs.Stands.{Standing};
 ghost use Rattle.array.specs.Lengths.{Within};
 ghost use Rattle.array.specs.Arrays.{SomeElements, ElementsTold, SomeArray, ArrayTold, SomeRuntime, RuntimeTold, SomeQa, QaTold};
-ghost use Rattle.array.specs.Members.{EndsAt, SomePairs, SomePair, MemberIs, MembersFit, MembersRoom, MembersPut, IsStruct, CountIs, SomeStruct, StructTold, SomeMade, MadeTold};
+ghost use Rattle.array.specs.Members.{SomePairs, SomePair, MemberIs, MembersFit, MembersRoom, MembersPut, IsStruct, CountIs, SomeStruct, StructTold, SomeMade, MadeTold};
 
 // Where an argument that converts to its member's type ends, and where the record of that type does; or that it does not convert.
 enum Member {
@@ -58,11 +58,11 @@ fn write_array(
     ensures { λ r. ⌜ ElementsTold (now (args .entry)) count depth (now (ty .entry)) at (now (out .entry)) r (now (out .exit)) ⌝ }
 {
     if !takes_array(count, ty::value_len(ty, at, depth), out.len()) {
-        return Written::Refused(22);
+        return Written::Refused(Refusal::NO_ROOM);
     }
-    let p = conv::put_mark(out, 0, b'a');
-    let q = conv::put_le(out, p, 2, count as u64);
-    Written::Record(lists::write_all(args, 0, ty, at, depth, out, q))
+    let p = record::put_mark(out, 0, b'a');
+    let q = record::put_le(out, p, 2, count as u64);
+    Written::Record(convert_all::write_all(args, 0, ty, at, depth, out, q))
 }
 
 // A counted array of the arguments: "conversion (9) before count (8)".
@@ -70,14 +70,14 @@ pub fn array_of(target: &[u8], args: &[u8], count: usize, out: &mut [u8]) -> Wri
     requires { ⌜ SomeArray (now target) (now args) count ⌝ }
     ensures { λ r. ⌜ ArrayTold (now (target .entry)) (now (args .entry)) count (now (out .entry)) r (now (out .exit)) ⌝ }
 {
-    if !lists::all_convert(args, 0, target, 4, 14) {
-        return Written::Refused(9);
+    if !convert_all::all_convert(args, 0, target, 4, Limit::PART_DEPTH) {
+        return Written::Refused(Refusal::NO_CONVERSION);
     }
-    let wanted = ty::join(target[2], target[3]) as usize;
+    let wanted = record::join(target[2], target[3]) as usize;
     if count != wanted {
         return Written::Miscount(wanted, count);
     }
-    write_array(args, count, target, 4, 14, out)
+    write_array(args, count, target, 4, Limit::PART_DEPTH, out)
 }
 
 // An array of the arguments for a runtime-sized target: "the count is that of the arguments".
@@ -85,10 +85,10 @@ pub fn runtime_of(target: &[u8], args: &[u8], count: usize, out: &mut [u8]) -> W
     requires { ⌜ SomeRuntime (now target) (now args) count ⌝ }
     ensures { λ r. ⌜ RuntimeTold (now (target .entry)) (now (args .entry)) count (now (out .entry)) r (now (out .exit)) ⌝ }
 {
-    if !lists::all_convert(args, 0, target, 2, 14) {
-        return Written::Refused(9);
+    if !convert_all::all_convert(args, 0, target, 2, Limit::PART_DEPTH) {
+        return Written::Refused(Refusal::NO_CONVERSION);
     }
-    write_array(args, count, target, 2, 14, out)
+    write_array(args, count, target, 2, Limit::PART_DEPTH, out)
 }
 
 // An array of the arguments without a type: "`Qa`: 11, then 10", the 10 where there is no common type or a literal does not fit it.
@@ -96,42 +96,31 @@ pub fn qa_of(args: &[u8], count: usize, out: &mut [u8]) -> Written
     requires { ⌜ SomeQa (now args) count ⌝ }
     ensures { λ r. ⌜ QaTold (now (args .entry)) count (now (out .entry)) r (now (out .exit)) ⌝ }
 {
-    let mut ty = [0u8; 4096];
-    match lists::common_type_of(args, false, &mut ty) {
+    let mut ty = [0u8; Limit::TYPE_BYTES];
+    match common_type::common_type_of(args, false, &mut ty) {
         Common::Of(_) => {
-            if !lists::all_fit(args, 0, &ty, 0, 15) {
-                return Written::Refused(10);
+            if !convert_all::all_fit(args, 0, &ty, 0, Limit::DEPTH) {
+                return Written::Refused(Refusal::NO_COMMON_TYPE);
             }
-            write_array(args, count, &ty, 0, 15, out)
+            write_array(args, count, &ty, 0, Limit::DEPTH, out)
         }
-        Common::Never => Written::Refused(10),
+        Common::Never => Written::Refused(Refusal::NO_COMMON_TYPE),
     }
 }
 
 // ---- structs
-
-// The end of the record of the member type that stands at `at`.
-fn member_end(target: &[u8], at: usize) -> usize
-    requires { ⌜ Standing 14 (now target) at ⌝ }
-    ensures { λ r. ⌜ EndsAt (now (target .entry)) at r ⌝ }
-{
-    match ty::type_end(target, at, 14) {
-        TypeEnd::At(e) => e,
-        TypeEnd::Bad => at,
-    }
-}
 
 // Whether the argument at i converts to the member type at `at`: its type, and then each of its literals.
 fn member_fits(target: &[u8], at: usize, args: &[u8], i: usize) -> Member
     requires { ⌜ SomePair (now target) at (now args) i ⌝ }
     ensures { λ r. ⌜ MemberIs (now (target .entry)) at (now (args .entry)) i r ⌝ }
 {
-    let e = call::next_arg(args, i);
-    let q = member_end(target, at);
-    if !lists::arg_converts(args, i, &target[at..q]) {
+    let e = args::next_arg(args, i);
+    let q = shape::end_of_type(target, at, Limit::PART_DEPTH);
+    if !convert_all::arg_converts(args, i, &target[at..q]) {
         return Member::Unfit;
     }
-    if !conv::value_fits(args, i, e, target, at, 14) {
+    if !conv::value_fits(args, i, e, target, at, Limit::PART_DEPTH) {
         return Member::Unfit;
     }
     Member::Ends(e, q)
@@ -167,10 +156,10 @@ fn write_members(target: &[u8], args: &[u8], out: &mut [u8], to: usize) -> usize
     let mut at = 6;
     let mut p = to;
     while from < args.len() {
-        let end = call::next_arg(args, from);
-        p = conv::write_converted(args, from, end, target, at, 14, out, p);
+        let end = args::next_arg(args, from);
+        p = conv::write_converted(args, from, end, target, at, Limit::PART_DEPTH, out, p);
         from = end;
-        at = member_end(target, at);
+        at = shape::end_of_type(target, at, Limit::PART_DEPTH);
     }
     p
 }
@@ -180,7 +169,7 @@ fn member_count(target: &[u8]) -> usize
     requires { ⌜ IsStruct (now target) ⌝ }
     ensures { λ r. ⌜ CountIs (now (target .entry)) r ⌝ }
 {
-    ty::join(target[4], target[5]) as usize
+    record::join(target[4], target[5]) as usize
 }
 
 // The struct whose arguments are known to convert, if there is room for it. Its identity and its member count are the type's.
@@ -188,11 +177,11 @@ fn write_struct(target: &[u8], args: &[u8], out: &mut [u8]) -> Written
     requires { ⌜ SomeMade (now target) (now args) ⌝ }
     ensures { λ r. ⌜ MadeTold (now (target .entry)) (now (args .entry)) (now (out .entry)) r (now (out .exit)) ⌝ }
 {
-    if !takes(ty::value_len(target, 0, 15), out.len()) {
-        return Written::Refused(22);
+    if !takes(ty::value_len(target, 0, Limit::DEPTH), out.len()) {
+        return Written::Refused(Refusal::NO_ROOM);
     }
-    let p = conv::put_mark(out, 0, b'u');
-    let q = conv::copy(target, 2, 6, out, p);
+    let p = record::put_mark(out, 0, b'u');
+    let q = record::copy(target, 2, 6, out, p);
     Written::Record(write_members(target, args, out, q))
 }
 
@@ -206,7 +195,7 @@ pub fn struct_of(target: &[u8], args: &[u8], count: usize, out: &mut [u8]) -> Wr
         return Written::Miscount(members, count);
     }
     if !members_convert(target, args) {
-        return Written::Refused(9);
+        return Written::Refused(Refusal::NO_CONVERSION);
     }
     write_struct(target, args, out)
 }

@@ -10,12 +10,12 @@ use Rattle.meaning.specs.Scalars.{Stage}
 use Rattle.meaning.specs.Trees.{Ty, Ts, Ta, Tu, Tys, Tr, Qa, Val, Of}
 use Rattle.meaning.specs.Answers.{Result, no}
 use Rattle.meaning.specs.Build.{build, buildOne, buildMore, arrayOf, structOf, runtimeOf, qaOf}
-use Rattle.call.specs.Row.{Row}
-use Rattle.call.specs.Told.{Builds}
-use Rattle.call.specs.declared.Written.{Written}
-use Rattle.made.specs.Made.{OneArg}
+use Rattle.args.specs.Row.{Row}
+use Rattle.error.specs.Told.{Builds}
+use Rattle.error.specs.declared.Written.{Written}
+use Rattle.scalar.specs.Made.{OneArg}
 use Rattle.array.specs.Arrays as arrays
-use Rattle.matrix.specs.Asked as matrices
+use Rattle.matrix.specs.MatrixRules as matrices
 use Rattle.builtin.specs.Calls.{Given, SomeGiven}
 
 module _ (P : List Val → Type 0) {args : List ℕ} {n : ℕ} (l : List Val) (g : Given args n l) where

@@ -1,3 +1,3 @@
 -- from the bytes to the rules; none, one or more arguments
-pub mod Asked
+pub mod CallAnswers
 pub mod Counts

@@ -1,21 +1,22 @@
 -- What the steps of a build are asked, and what they answer.
 use mathlib.Core.Path.{_≡_}
-use mathlib.Core.Option.{Option, some}
 use mathlib.Core.List.{List}
 use Prim.Native.Nat.{ℕ, _≤_}
 use lib.ListN.{length}
 use Rattle.meaning.specs.Kinds.{Kind, kindNo}
 use Rattle.meaning.specs.Scalars.{Stage}
 use Rattle.meaning.specs.Trees.{Ty, Val, Target, Of, Tr}
-use Rattle.meaning.specs.Read.{readVals}
+use Rattle.meaning.specs.Read.{readTarget, readVals}
 use Rattle.meaning.specs.Answers.{Answer, orNo, _>>=_}
 use Rattle.meaning.specs.Build.{build}
-use Rattle.meaning.specs.Entries.{stageOf, handVal}
+use Rattle.meaning.specs.Entries.{handVal}
+use Rattle.literal.specs.LiteralAnswers.{rulesOf}
+use Rattle.literal.specs.declared.Rules.{Rules}
 use Rattle.ty.specs.Stands.{Stands}
 use Rattle.conv.specs.Ranked.{Whole}
-use Rattle.call.specs.Row.{Row}
-use Rattle.call.specs.Told.{Told, Builds}
-use Rattle.call.specs.declared.Written.{Written}
+use Rattle.args.specs.Row.{Row}
+use Rattle.error.specs.Told.{Told, Builds}
+use Rattle.error.specs.declared.Written.{Written}
 
 -- ---- the arguments, once they are read
 
@@ -40,12 +41,12 @@ abbrev pub BuildsOf : Stage → Target → List ℕ → ℕ → List ℕ → Wri
 BuildsOf s g args n out r out′ = (l : List Val) → Given args n l → Builds (build s g l) out r out′
 
 -- for a type whose record the target is
-abbrev pub TypeBuilt : ℕ → List ℕ → List ℕ → ℕ → List ℕ → Written → List ℕ → Type 0
-TypeBuilt stage target args n out r out′ = (s : Stage) (t : Ty) → stageOf stage ≡ some s → Whole target t → BuildsOf s (Of t) args n out r out′
+abbrev pub TypeBuilt : Rules → List ℕ → List ℕ → ℕ → List ℕ → Written → List ℕ → Type 0
+TypeBuilt rules target args n out r out′ = (s : Stage) (t : Ty) → rules ≡ rulesOf s → Whole target t → BuildsOf s (Of t) args n out r out′
 
 -- and for a scalar, a vector or a matrix, of the kind whose number k is
-abbrev pub LeafBuilt : (Kind → Ty) → ℕ → ℕ → List ℕ → ℕ → List ℕ → Written → List ℕ → Type 0
-LeafBuilt f stage k args n out r out′ = (s : Stage) (j : Kind) → stageOf stage ≡ some s → k ≡ kindNo j → BuildsOf s (Of (f j)) args n out r out′
+abbrev pub LeafBuilt : (Kind → Ty) → Rules → ℕ → List ℕ → ℕ → List ℕ → Written → List ℕ → Type 0
+LeafBuilt f rules k args n out r out′ = (s : Stage) (j : Kind) → rules ≡ rulesOf s → k ≡ kindNo j → BuildsOf s (Of (f j)) args n out r out′
 
 -- for a runtime-sized array, and for a shape, whose answer is the same at every stage
 abbrev pub RuntimeBuilt : List ℕ → List ℕ → ℕ → List ℕ → Written → List ℕ → Type 0
@@ -63,11 +64,20 @@ buildRead s g args room = orNo 2 (readVals g args) >>= λ l. build s g l >>= han
 abbrev pub Answers : Stage → Target → List ℕ → List ℕ → Written → List ℕ → Type 0
 Answers s g args out r out′ = Told (buildRead s g args (length out)) out r out′
 
-abbrev pub TypeAnswers : ℕ → List ℕ → List ℕ → List ℕ → Written → List ℕ → Type 0
-TypeAnswers stage target args out r out′ = (s : Stage) (t : Ty) → stageOf stage ≡ some s → Whole target t → Answers s (Of t) args out r out′
+abbrev pub TypeAnswers : Rules → List ℕ → List ℕ → List ℕ → Written → List ℕ → Type 0
+TypeAnswers rules target args out r out′ = (s : Stage) (t : Ty) → rules ≡ rulesOf s → Whole target t → Answers s (Of t) args out r out′
 
 abbrev pub RuntimeAnswers : List ℕ → List ℕ → List ℕ → Written → List ℕ → Type 0
 RuntimeAnswers target args out r out′ = (s : Stage) (t : Ty) → Stands 14 target 2 t (length target) → Answers s (Tr t) args out r out′
 
 abbrev pub ShapeAnswers : Target → List ℕ → List ℕ → Written → List ℕ → Type 0
 ShapeAnswers g args out r out′ = (s : Stage) → Answers s g args out r out′
+
+-- ---- before the target is read
+
+-- what is answered once the stage is
+unfoldable pub buildAt : Stage → List ℕ → List ℕ → ℕ → Answer
+buildAt s target args room = orNo 1 (readTarget target) >>= λ g. buildRead s g args room
+
+abbrev pub TargetAnswers : Rules → List ℕ → List ℕ → List ℕ → Written → List ℕ → Type 0
+TargetAnswers rules target args out r out′ = (s : Stage) → rules ≡ rulesOf s → Told (buildAt s target args (length out)) out r out′

@@ -1,73 +1,77 @@
 // The entry `call_ctor` of the source's builtin/mod.rs: which constructor a target is, by how many arguments there are.
-use call::Written;
-use inst::Args;
+use args::Args;
+use error::Refusal;
+use error::Written;
 use kind::Scalar;
+use literal::Rules;
+use literal::Staged;
 use ty::Head;
+use ty::Limit;
 use ty::Target;
-ghost use mathlib.Core.Path.{_≡_};
 ghost use Prim.Native.Nat.{_≤_};
 ghost use lib.Dec.{T};
 ghost use lib.ListN.{length};
 ghost use Rattle.meaning.specs.Trees.{Ts, Tv, Tm, Qa, Qv, Qm};
 ghost use Rattle.meaning.specs.Records.{side};
 ghost use Rattle.meaning.specs.Entries.{buildAnswer};
-ghost use Rattle.ty.specs.Fronts.{floatNumber};
+ghost use Rattle.literal.specs.LiteralAnswers.{SomeStage};
+ghost use Rattle.ty.specs.TypeFronts.{floatNumber};
 ghost use Rattle.conv.specs.Ranked.{OneType};
-ghost use Rattle.call.specs.Told.{Told};
-ghost use Rattle.made.specs.Made.{SomeKind};
-ghost use Rattle.builtin.specs.Calls.{SomeGiven, IsRuntime, TypeBuilt, LeafBuilt, RuntimeBuilt, ShapeBuilt, TypeAnswers, RuntimeAnswers, ShapeAnswers};
+ghost use Rattle.error.specs.Told.{Told};
+ghost use Rattle.scalar.specs.Made.{SomeKind};
+ghost use Rattle.builtin.specs.Calls.{SomeGiven, IsRuntime, TypeBuilt, LeafBuilt, RuntimeBuilt, ShapeBuilt, TypeAnswers, RuntimeAnswers, ShapeAnswers, TargetAnswers};
 
 // ---- the arguments are read: at least one, or none
 
 // A scalar type: 4 for an abstract one, 5 for two arguments or more.
-fn scalar_ctor(stage: u8, k: u8, args: &[u8], count: usize, out: &mut [u8]) -> Written
-    requires { ⌜ (stage ≤ 2) × SomeKind k × (1 ≤ count) × SomeGiven (now args) count ⌝ }
-    ensures { λ r. ⌜ LeafBuilt Ts stage k (now (args .entry)) count (now (out .entry)) r (now (out .exit)) ⌝ }
+fn scalar_ctor(rules: Rules, k: u8, args: &[u8], count: usize, out: &mut [u8]) -> Written
+    requires { ⌜ SomeStage rules × SomeKind k × (1 ≤ count) × SomeGiven (now args) count ⌝ }
+    ensures { λ r. ⌜ LeafBuilt Ts rules k (now (args .entry)) count (now (out .entry)) r (now (out .exit)) ⌝ }
 {
     if count == 1 {
-        return made::scalar(stage, k, args, out);
+        return scalar::scalar(rules, k, args, out);
     }
     let scalar = Scalar { kind: k };
     if scalar.is_abstract() {
-        return Written::Refused(4);
+        return Written::Refused(Refusal::NOT_CONSTRUCTIBLE);
     }
-    Written::Refused(5)
+    Written::Refused(Refusal::SEVERAL_FOR_SCALAR)
 }
 
 // A vector type.
-fn vec_ctor(stage: u8, n: u8, k: u8, args: &[u8], count: usize, out: &mut [u8]) -> Written
-    requires { ⌜ (stage ≤ 2) × T (side n) × SomeKind k × (1 ≤ count) × SomeGiven (now args) count ⌝ }
-    ensures { λ r. ⌜ LeafBuilt (Tv n) stage k (now (args .entry)) count (now (out .entry)) r (now (out .exit)) ⌝ }
+fn vec_ctor(rules: Rules, n: u8, k: u8, args: &[u8], count: usize, out: &mut [u8]) -> Written
+    requires { ⌜ SomeStage rules × T (side n) × SomeKind k × (1 ≤ count) × SomeGiven (now args) count ⌝ }
+    ensures { λ r. ⌜ LeafBuilt (Tv n) rules k (now (args .entry)) count (now (out .entry)) r (now (out .exit)) ⌝ }
 {
     if count == 1 {
-        return vector::vec_one(stage, n, k, args, out);
+        return vector::vec_one(rules, n, k, args, out);
     }
     vector::vec_parts(n, k, args, out)
 }
 
 // A matrix type.
-fn mat_ctor(stage: u8, c: u8, r: u8, k: u8, args: &[u8], count: usize, out: &mut [u8]) -> Written
-    requires { ⌜ (stage ≤ 2) × T (side c) × T (side r) × T (floatNumber k) × (1 ≤ count) × SomeGiven (now args) count ⌝ }
-    ensures { λ x. ⌜ LeafBuilt (Tm c r) stage k (now (args .entry)) count (now (out .entry)) x (now (out .exit)) ⌝ }
+fn mat_ctor(rules: Rules, c: u8, r: u8, k: u8, args: &[u8], count: usize, out: &mut [u8]) -> Written
+    requires { ⌜ SomeStage rules × T (side c) × T (side r) × T (floatNumber k) × (1 ≤ count) × SomeGiven (now args) count ⌝ }
+    ensures { λ x. ⌜ LeafBuilt (Tm c r) rules k (now (args .entry)) count (now (out .entry)) x (now (out .exit)) ⌝ }
 {
     if count == 1 {
-        return matrix::mat_one(stage, c, r, k, args, out);
+        return matrix::mat_one(rules, c, r, k, args, out);
     }
     matrix::mat_parts(c, r, k, args, count, out)
 }
 
 // A type whose record the target is: "no arguments with a type record: the zero value".
-fn type_given(stage: u8, target: &[u8], args: &[u8], count: usize, out: &mut [u8]) -> Written
-    requires { ⌜ (stage ≤ 2) × OneType (now target) × SomeGiven (now args) count ⌝ }
-    ensures { λ r. ⌜ TypeBuilt stage (now (target .entry)) (now (args .entry)) count (now (out .entry)) r (now (out .exit)) ⌝ }
+fn type_given(rules: Rules, target: &[u8], args: &[u8], count: usize, out: &mut [u8]) -> Written
+    requires { ⌜ SomeStage rules × OneType (now target) × SomeGiven (now args) count ⌝ }
+    ensures { λ r. ⌜ TypeBuilt rules (now (target .entry)) (now (args .entry)) count (now (out .entry)) r (now (out .exit)) ⌝ }
 {
     if count == 0 {
         return zero::zero_value(target, out);
     }
-    match ty::head_at(target, 0, 15) {
-        Head::Scalar(k) => scalar_ctor(stage, k, args, count, out),
-        Head::Vector(n, k) => vec_ctor(stage, n, k, args, count, out),
-        Head::Matrix(c, r, k) => mat_ctor(stage, c, r, k, args, count, out),
+    match ty::head_at(target, 0, Limit::DEPTH) {
+        Head::Scalar(k) => scalar_ctor(rules, k, args, count, out),
+        Head::Vector(n, k) => vec_ctor(rules, n, k, args, count, out),
+        Head::Matrix(c, r, k) => mat_ctor(rules, c, r, k, args, count, out),
         Head::Array(_) => array::array_of(target, args, count, out),
         Head::Struct(_, _) => array::struct_of(target, args, count, out),
     }
@@ -79,7 +83,7 @@ fn runtime_given(target: &[u8], args: &[u8], count: usize, out: &mut [u8]) -> Wr
     ensures { λ r. ⌜ RuntimeBuilt (now (target .entry)) (now (args .entry)) count (now (out .entry)) r (now (out .exit)) ⌝ }
 {
     if count == 0 {
-        return Written::Refused(4);
+        return Written::Refused(Refusal::NOT_CONSTRUCTIBLE);
     }
     array::runtime_of(target, args, count, out)
 }
@@ -90,7 +94,7 @@ fn array_given(args: &[u8], count: usize, out: &mut [u8]) -> Written
     ensures { λ r. ⌜ ShapeBuilt Qa (now (args .entry)) count (now (out .entry)) r (now (out .exit)) ⌝ }
 {
     if count == 0 {
-        return Written::Refused(11);
+        return Written::Refused(Refusal::ARGUMENTS_NEEDED);
     }
     array::qa_of(args, count, out)
 }
@@ -115,7 +119,7 @@ fn matrix_given(c: u8, r: u8, args: &[u8], count: usize, out: &mut [u8]) -> Writ
     ensures { λ x. ⌜ ShapeBuilt (Qm c r) (now (args .entry)) count (now (out .entry)) x (now (out .exit)) ⌝ }
 {
     if count == 0 {
-        return Written::Refused(11);
+        return Written::Refused(Refusal::ARGUMENTS_NEEDED);
     }
     if count == 1 {
         return matrix::qm_one(c, r, args, out);
@@ -125,13 +129,13 @@ fn matrix_given(c: u8, r: u8, args: &[u8], count: usize, out: &mut [u8]) -> Writ
 
 // ---- the target is read, the arguments are not
 
-fn type_call(stage: u8, target: &[u8], args: &[u8], out: &mut [u8]) -> Written
-    requires { ⌜ (stage ≤ 2) × OneType (now target) ⌝ }
-    ensures { λ r. ⌜ TypeAnswers stage (now (target .entry)) (now (args .entry)) (now (out .entry)) r (now (out .exit)) ⌝ }
+fn type_call(rules: Rules, target: &[u8], args: &[u8], out: &mut [u8]) -> Written
+    requires { ⌜ SomeStage rules × OneType (now target) ⌝ }
+    ensures { λ r. ⌜ TypeAnswers rules (now (target .entry)) (now (args .entry)) (now (out .entry)) r (now (out .exit)) ⌝ }
 {
-    match inst::value_args(args, false) {
-        Args::Count(n) => type_given(stage, target, args, n, out),
-        Args::Bad => Written::Refused(2),
+    match args::value_args(args, false) {
+        Args::Count(n) => type_given(rules, target, args, n, out),
+        Args::Bad => Written::Refused(Refusal::BAD_ARGUMENT),
     }
 }
 
@@ -139,18 +143,18 @@ fn runtime_call(target: &[u8], args: &[u8], out: &mut [u8]) -> Written
     requires { ⌜ IsRuntime (now target) ⌝ }
     ensures { λ r. ⌜ RuntimeAnswers (now (target .entry)) (now (args .entry)) (now (out .entry)) r (now (out .exit)) ⌝ }
 {
-    match inst::value_args(args, false) {
+    match args::value_args(args, false) {
         Args::Count(n) => runtime_given(target, args, n, out),
-        Args::Bad => Written::Refused(2),
+        Args::Bad => Written::Refused(Refusal::BAD_ARGUMENT),
     }
 }
 
 fn array_call(args: &[u8], out: &mut [u8]) -> Written
     ensures { λ r. ⌜ ShapeAnswers Qa (now (args .entry)) (now (out .entry)) r (now (out .exit)) ⌝ }
 {
-    match inst::value_args(args, true) {
+    match args::value_args(args, true) {
         Args::Count(n) => array_given(args, n, out),
-        Args::Bad => Written::Refused(2),
+        Args::Bad => Written::Refused(Refusal::BAD_ARGUMENT),
     }
 }
 
@@ -158,9 +162,9 @@ fn vector_call(n: u8, args: &[u8], out: &mut [u8]) -> Written
     requires { ⌜ T (side n) ⌝ }
     ensures { λ r. ⌜ ShapeAnswers (Qv n) (now (args .entry)) (now (out .entry)) r (now (out .exit)) ⌝ }
 {
-    match inst::value_args(args, false) {
+    match args::value_args(args, false) {
         Args::Count(m) => vector_given(n, args, m, out),
-        Args::Bad => Written::Refused(2),
+        Args::Bad => Written::Refused(Refusal::BAD_ARGUMENT),
     }
 }
 
@@ -168,28 +172,38 @@ fn matrix_call(c: u8, r: u8, args: &[u8], out: &mut [u8]) -> Written
     requires { ⌜ T (side c) × T (side r) ⌝ }
     ensures { λ x. ⌜ ShapeAnswers (Qm c r) (now (args .entry)) (now (out .entry)) x (now (out .exit)) ⌝ }
 {
-    match inst::value_args(args, false) {
+    match args::value_args(args, false) {
         Args::Count(n) => matrix_given(c, r, args, n, out),
-        Args::Bad => Written::Refused(2),
+        Args::Bad => Written::Refused(Refusal::BAD_ARGUMENT),
+    }
+}
+
+// ---- the stage is read
+
+// By the target: "Order: 3, 1, 2, then the order above, then 22".
+fn target_call(rules: Rules, target: &[u8], args: &[u8], out: &mut [u8]) -> Written
+    requires { ⌜ SomeStage rules ⌝ }
+    ensures { λ r. ⌜ TargetAnswers rules (now (target .entry)) (now (args .entry)) (now (out .entry)) r (now (out .exit)) ⌝ }
+{
+    match ty::read_target(target) {
+        Target::Type => type_call(rules, target, args, out),
+        Target::Runtime => runtime_call(target, args, out),
+        Target::Array => array_call(args, out),
+        Target::Vector(n) => vector_call(n, args, out),
+        Target::Matrix(c, r) => matrix_call(c, r, args, out),
+        Target::Bad => Written::Refused(Refusal::BAD_TARGET),
     }
 }
 
 // ---- the entry
 
 // The source's `call_ctor`: what the target's constructor makes of the arguments, at the front of the lent buffer, or a refusal, which leaves the buffer as it was.
-// Nothing is assumed of the bytes. "Order: 3, 1, 2, then the order above, then 22."
+// Nothing is assumed of the bytes.
 pub fn call_ctor(stage: u8, target: &[u8], args: &[u8], out: &mut [u8]) -> Written
     ensures { λ r. ⌜ Told (buildAnswer stage (now (target .entry)) (now (args .entry)) (length (now (out .entry)))) (now (out .entry)) r (now (out .exit)) ⌝ }
 {
-    if stage > 2 {
-        return Written::Refused(3);
-    }
-    match ty::read_target(target) {
-        Target::Type => type_call(stage, target, args, out),
-        Target::Runtime => runtime_call(target, args, out),
-        Target::Array => array_call(args, out),
-        Target::Vector(n) => vector_call(n, args, out),
-        Target::Matrix(c, r) => matrix_call(c, r, args, out),
-        Target::Bad => Written::Refused(1),
+    match literal::rules_at(stage) {
+        Staged::At(rules) => target_call(rules, target, args, out),
+        Staged::Never => Written::Refused(Refusal::NO_STAGE),
     }
 }

@@ -1,9 +1,8 @@
--- ranks of types; bytes and literals; one item; the items that a loop has left; lists written; the items of values; a value to a type
+-- ranks of types; one item; the walk over items; the items that a loop has left; the items of values; a value to a type
 pub mod Ranks
-pub mod Bytes
-pub mod Steps
-pub mod Loops
-pub mod Written
+pub mod ItemSteps
+pub mod Walk
+pub mod ItemsLeft
 pub mod Values
-pub mod Types
-pub mod Fronts
+pub mod ValueByType
+pub mod FrontOfBuffer

@@ -2,13 +2,13 @@
 use mathlib.Core.Path.{_≡_, refl, sym, ap, ap₂, _∙_, subst}
 use mathlib.Core.Option.{Option, none, some}
 use mathlib.Core.List.{List, [], _∷_, _++_, append-nil}
-use mathlib.Core.Bool.{Bool, true, false, _&&_, cond}
-use Prim.Native.Nat.{ℕ, _+_, _-_, _<_}
+use mathlib.Core.Bool.{Bool, true, false, not, _&&_, cond}
+use Prim.Native.Nat.{ℕ, _-_, _≤_, _<_}
 use native.Mathlib.Omega.{arith}
-use lib.Dec.{T, leb, eqb, eqb-refl}
+use lib.Dec.{T, leb, eqb}
 use lib.ListN.{length, getD, length-append}
 use lib.Seq.{take-at}
-use Rattle.meaning.specs.Kinds.{Kind, f32, kindNo, kindRank, isFloat, sameKind}
+use Rattle.meaning.specs.Kinds.{Kind, bool, aint, afloat, i32, u32, f32, f16, kindNo, kindRank, fromSame, fromAint, fromAfloat, isFloat, sameKind}
 use Rattle.meaning.specs.Scalars.{some?}
 use Rattle.meaning.specs.Trees.{Ty, Ts, Tv, Tm, Ta, Tu, Target, Of, Tr, leaf, setLeaf, sameTy}
 use Rattle.meaning.specs.Records.{le, tyBytes, joined, every, side, u16, shapedTy, goodTy, goodArg, goodTys}
@@ -17,7 +17,7 @@ use Rattle.meaning.specs.Answers.{Result, ok, no, orNo, _>>=_, _>>_}
 use Rattle.meaning.specs.Convert.{rank, leafRank, converts}
 use Rattle.meaning.specs.Entries.{only, rankOne, typeTarget, rankAnswer}
 use Rattle.laws.proofs.AgreeCommon.{set-set}
-use Rattle.laws.proofs.AgreeConv.{set-same, none-some, true-of}
+use Rattle.laws.proofs.AgreeConv.{set-same, none-some}
 use Rattle.laws.proofs.AgreeLit.{kind-back}
 use Rattle.laws.proofs.AgreeVec.{converts-lit}
 use Rattle.laws.proofs.Back.{and-l, and-r}
@@ -26,16 +26,18 @@ use Rattle.laws.proofs.Length.{bytes-same}
 use Rattle.laws.proofs.Same.{both, same-ty, same-refl}
 use Rattle.laws.proofs.Sound.{Bytes}
 use Rattle.kind.specs.Ends.{ofKind}
-use Rattle.literal.specs.Told.{rankOf, rankBetween}
+use Rattle.literal.specs.LiteralAnswers.{rankOf, rankBetween}
 use Rattle.literal.specs.declared.Rank.the-variants.{At, Never}
-use Rattle.ty.specs.Targets.{sameBytes, TypeTarget}
+use Rattle.ty.specs.Targets.{TypeTarget}
 use Rattle.ty.specs.Heads.{leafOf}
 use Rattle.ty.specs.declared.Leaf.the-variants.{Kind as Bottom, Struct as Blocked}
-use Rattle.ty.proofs.Places.{at-of}
+use Rattle.record.specs.Bytes.{sameBytes}
 use Rattle.ty.proofs.Heads.{ScalarIs}
-use Rattle.ty.proofs.Equal.{both-ways, bytes-path, bytes-refl, same-records}
+use Rattle.ty.proofs.Equal.{same-records}
 use Rattle.ty.proofs.Leaves.{leaf-last}
 use Rattle.ty.proofs.Targets.{whole-bytes, whole-good, of-target}
+use Rattle.record.proofs.Places.{at-of}
+use Rattle.record.proofs.Equal.{both-ways, bytes-path, bytes-refl}
 use Rattle.conv.specs.Ranked.{Whole, KindConverts, front, rankRead}
 
 -- ---- the kind at the bottom, as `leaf_at` answers it
@@ -71,15 +73,49 @@ between a b e f = rw (e, f, kind-back a, kind-back b)
 
 -- ---- scalars by their kinds
 
-module _ {from to : ℕ} (a b : Kind) (e : from ≡ kindNo a) (f : to ≡ kindNo b) where
-  kinds : some? (rankBetween from to) ≡ converts (Ts a) (Ts b)
-  kinds = ap some? (between a b e f) ∙ sym (converts-lit a b)
+-- by comparisons of their numbers: a kind to itself, AbstractInt (1) to all but Bool (0), AbstractFloat (2) to F32 (5) and F16 (6)
+unfoldable pub goesTo : ℕ → ℕ → Bool
+goesTo j k = cond (eqb j k) true (cond (eqb j 1) (not (eqb k 0)) (cond (eqb j 2) (cond (eqb k 5) true (eqb k 6)) false))
 
-  pub kind-yes : {n : ℕ} → At n ≡ rankOf (rankBetween from to) → true ≡ converts (Ts a) (Ts b)
-  kind-yes h = rank-some (rankBetween from to) h ∙ kinds
+only-same : (x : Bool) → some? {A = ℕ} (cond x (some 0) none) ≡ cond x true false
+unfolding some?
+only-same true = refl
+only-same false = refl
 
-  pub kind-not : Never ≡ rankOf (rankBetween from to) → false ≡ converts (Ts a) (Ts b)
-  kind-not h = rank-none (rankBetween from to) h ∙ kinds
+ranked : (a b : Kind) → some? (kindRank a b) ≡ goesTo (kindNo a) (kindNo b)
+unfolding some? kindRank fromSame fromAint fromAfloat sameKind kindNo goesTo
+ranked bool b = only-same (sameKind bool b)
+ranked aint bool = refl
+ranked aint aint = refl
+ranked aint afloat = refl
+ranked aint i32 = refl
+ranked aint u32 = refl
+ranked aint f32 = refl
+ranked aint f16 = refl
+ranked afloat bool = refl
+ranked afloat aint = refl
+ranked afloat afloat = refl
+ranked afloat i32 = refl
+ranked afloat u32 = refl
+ranked afloat f32 = refl
+ranked afloat f16 = refl
+ranked i32 b = only-same (sameKind i32 b)
+ranked u32 b = only-same (sameKind u32 b)
+ranked f32 b = only-same (sameKind f32 b)
+ranked f16 b = only-same (sameKind f16 b)
+
+pub kind-most : (k : Kind) → kindNo k ≤ 6
+unfolding kindNo
+kind-most bool = omega arith
+kind-most aint = omega arith
+kind-most afloat = omega arith
+kind-most i32 = omega arith
+kind-most u32 = omega arith
+kind-most f32 = omega arith
+kind-most f16 = omega arith
+
+pub kind-goes : {from to : ℕ} (a b : Kind) → from ≡ kindNo a → to ≡ kindNo b → goesTo from to ≡ converts (Ts a) (Ts b)
+kind-goes a b e f = rw (e, f) (sym (converts-lit a b ∙ ranked a b))
 
 -- a type of three bytes is a scalar
 pub three-scalar : {s : List ℕ} {t : Ty} → Whole s t → length s ≡ 3 → ScalarIs 15 s 0 (getD s 2 0) t (length s)
@@ -176,16 +212,6 @@ some-byte {t = t} {j} w e =
     let x = kind-is j (leaf t) e in
     let y = leaf-last t (x .is) in
     omega (arith, ap length (whole-bytes w ∙ y .bytes), length-append (y .front) (kindNo (x .kind) ∷ []))
-
--- arrays of one count convert as their elements do: for a runtime-sized array, whose count is the value's
-pub array-rank : (n : ℕ) (a t : Ty) → rank (Ta n a) (Ta n t) ≡ rank a t
-unfolding rank sameTy leaf leafRank setLeaf
-array-rank n a t = rw (true-of (eqb n n) (eqb-refl n)) (ap (cond (sameTy a t) (some 0)) (go (leaf a) (leaf t)))
-  where
-    go : (o p : Option Kind) → leafRank (Ta n a) (Ta n t) o p ≡ leafRank a t o p
-    go none p = refl
-    go (some j) none = refl
-    go (some j) (some k) = rw (true-of (eqb n n) (eqb-refl n))
 
 -- ---- answers
 

@@ -21,10 +21,10 @@ use Rattle.laws.proofs.BackVal.{drop-len, take-len, every-take, every-drop}
 use Rattle.laws.proofs.Same.{both}
 use Rattle.laws.proofs.SoundVal.{joined-vals}
 use Rattle.laws.proofs.Sound.{on-some, some-inj}
-use Rattle.conv.specs.Writers.{Put}
+use Rattle.record.specs.Bytes.{Put}
 use Rattle.conv.specs.Items.{Item, Literal, Vector, Matrix, Array, itemBytes, bytesOf, goodItem, convItem, convItems, columnItems, itemsOf, itemsAll, ItemsAt, SomeItems, Fits, Convertible, Converts}
 use Rattle.conv.specs.Values.{BytesAt, HasVal, plain, plains}
-use Rattle.conv.proofs.Written.{joinSome, all-append, all-length, written, written-cons, written-append}
+use Rattle.laws.proofs.Each.{joinSome, some-append, some-length, written, written-cons, written-append}
 
 -- ---- a record is its items'
 
@@ -135,8 +135,8 @@ columns-written k j (suc c) r ps h =
     let b = columnItems j (columns c r (drop r ps)) in
     mark-written k (Vector (length (take r ps))) (a ++ b) refl
     ∙ (ap (mapSome ((‘V’ ∷ ‘v’ ∷ length (take r ps) ∷ []) ++_)) (written-append (convItem k) itemBytes a b ∙ ap₂ joinSome (lits-written k j (take r ps)) (columns-written k j c r (drop r ps) (drop-len c r ps h)))
-    ∙ (column-written k c r (length (take r ps)) (allSome (conv k j) (take r ps)) (allSome (conv k j) (drop r ps)) n (λ qs e. all-length (conv k j) (take r ps) qs e ∙ n)
-    ∙ ap (mapSome (cols k (suc c) r)) (sym (all-append (conv k j) (take r ps) (drop r ps)) ∙ ap (allSome (conv k j)) (take-append-drop r ps))))
+    ∙ (column-written k c r (length (take r ps)) (allSome (conv k j) (take r ps)) (allSome (conv k j) (drop r ps)) n (λ qs e. some-length (conv k j) (take r ps) qs e ∙ n)
+    ∙ ap (mapSome (cols k (suc c) r)) (sym (some-append (conv k j) (take r ps) (drop r ps)) ∙ ap (allSome (conv k j)) (take-append-drop r ps))))
 
 count-kept : (k : Kind) (l m : Vals) → convAll k l ≡ some m → countVals m ≡ countVals l
 unfolding convAll countVals mapSome
@@ -175,12 +175,12 @@ mutual
   val-written k (Vv j ps) h g =
       mark-written k (Vector (length ps)) (map (Literal j) ps) refl
       ∙ (ap (mapSome ((‘V’ ∷ ‘v’ ∷ length ps ∷ []) ++_)) (lits-written k j ps)
-      ∙ parts-written (allSome (conv k j) ps) (λ n. ‘V’ ∷ ‘v’ ∷ n ∷ []) (joined (litBytes k)) (Vv k) valBytes length (length ps) (λ qs. refl) (all-length (conv k j) ps))
+      ∙ parts-written (allSome (conv k j) ps) (λ n. ‘V’ ∷ ‘v’ ∷ n ∷ []) (joined (litBytes k)) (Vv k) valBytes length (length ps) (λ qs. refl) (some-length (conv k j) ps))
   val-written k (Vm c r j ps) h g =
       mark-written k (Matrix c r) (columnItems j (columns c r ps)) refl
       ∙ (ap (mapSome ((‘V’ ∷ ‘m’ ∷ c ∷ r ∷ []) ++_))
       (columns-written k j c r ps (eqb→eq (length ps) (c * r) (and-r (every (goodLit j) ps) (eqb (length ps) (c * r)) g)))
-      ∙ parts-written (allSome (conv k j) ps) (λ n. ‘V’ ∷ ‘m’ ∷ c ∷ r ∷ []) (cols k c r) (Vm c r k) valBytes length (length ps) (λ qs. refl) (all-length (conv k j) ps))
+      ∙ parts-written (allSome (conv k j) ps) (λ n. ‘V’ ∷ ‘m’ ∷ c ∷ r ∷ []) (cols k c r) (Vm c r k) valBytes length (length ps) (λ qs. refl) (some-length (conv k j) ps))
   val-written k (Va l) h g =
       mark-written k (Array (countVals l)) (itemsAll l) refl
       ∙ (ap (mapSome ((‘V’ ∷ ‘a’ ∷ le 2 (countVals l)) ++_)) (vals-written k l h (and-r (allSame (typesOf l)) (shapedVals l) g))

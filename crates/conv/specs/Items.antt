@@ -12,8 +12,9 @@ use Rattle.meaning.specs.Trees.{Val, Vs, Vv, Vm, Va, Vu, Vals, ⟨⟩, _▹_, c
 use Rattle.meaning.specs.Records.{‘V’, ‘v’, ‘m’, ‘a’, le, litBytes, joined, columns, every, goodLit}
 use Rattle.meaning.specs.Answers.{allSome, mapSome}
 use Rattle.literal.specs.declared.Converted.{Converted}
-use Rattle.literal.specs.Told.{convertedOf, convBetween}
-use Rattle.conv.specs.Writers.{Put, widthOf, numberAt}
+use Rattle.literal.specs.LiteralAnswers.{convertedOf, convBetween}
+use Rattle.record.specs.Bytes.{Put, numberAt}
+use Rattle.record.specs.Literals.{widthOf}
 
 -- `Vs` kind and payload; `Vv` n; `Vm` c r; `Va` count
 pub data Item : Type 0 where

@@ -1,4 +1,3 @@
 pub mod Ranked
-pub mod Writers
 pub mod Items
 pub mod Values

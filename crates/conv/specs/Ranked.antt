@@ -12,7 +12,7 @@ use Rattle.meaning.specs.Convert.{rank, converts}
 use Rattle.meaning.specs.Entries.{only, rankOne}
 use Rattle.ty.specs.Stands.{Stands, Ends}
 use Rattle.literal.specs.declared.Rank.{Rank}
-use Rattle.literal.specs.Told.{rankOf}
+use Rattle.literal.specs.LiteralAnswers.{rankOf}
 use Rattle.conv.specs.declared.Ranked.{Ranked}
 use Rattle.conv.specs.declared.Ranked.the-variants as ranked
 

@@ -11,7 +11,7 @@ use Rattle.meaning.specs.Trees.{Ty, Val, Vs, Vv, Vm, Va, Vu, Vals, ⟨⟩, _▹
 use Rattle.meaning.specs.Records.{valBytes, shapedVal}
 use Rattle.meaning.specs.Convert.{converts, convVal}
 use Rattle.ty.specs.Stands.{Stands}
-use Rattle.conv.specs.Writers.{Put}
+use Rattle.record.specs.Bytes.{Put}
 
 -- the bytes bs stand in s from `from` up to e
 pub record BytesAt (s : List ℕ) (from e : ℕ) (bs : List ℕ) : Type 0 where

@@ -1,19 +1,19 @@
 // Conversion without a constructor: the source's conv.rs on records in lent slices.
+use error::Refusal;
 use kind::Scalar;
 use literal::Converted;
 use literal::Rank;
 use ty::Leaf;
+use ty::Limit;
 use ty::Target;
 ghost use mathlib.Core.Path.{_≡_};
-ghost use mathlib.Core.List.{[], _∷_};
-ghost use Prim.Native.Nat.{_≤_, _<_, _+_, _-_, _%_};
-ghost use lib.ListN.{length, getD, take, drop};
+ghost use Prim.Native.Nat.{_≤_, _<_, _+_, _-_};
+ghost use lib.ListN.{length, getD};
 ghost use Rattle.meaning.specs.Scalars.{some?};
 ghost use Rattle.meaning.specs.Entries.{rankAnswer};
-ghost use Rattle.meaning.specs.Records.{‘V’, le};
-ghost use Rattle.ty.specs.Targets.{sameBytes};
+ghost use Rattle.record.specs.Bytes.{sameBytes};
 ghost use Rattle.conv.specs.Ranked.{OneType, RankIs, ConvertsIs, KindConverts, front, paper, RanksTo, RanksToRuntime};
-ghost use Rattle.conv.specs.Writers.{Put, widthOf, literalOf, numberAt};
+ghost use Rattle.record.specs.Literals.{widthOf};
 ghost use Rattle.conv.specs.Items.{SomeItem, SomeItems, literalAs, literalTo, EndIs, ItemFits, ItemRoom, ItemPut, Fits, Convertible, Converts};
 ghost use Rattle.conv.specs.Values.{SomeValueTo, ValueFits, ValueRoom, ValuePut};
 
@@ -33,7 +33,7 @@ fn same_shape(a: &[u8], b: &[u8]) -> bool
 {
     let m = a.len() - 1;
     let n = b.len() - 1;
-    ty::same_bytes(&a[..m], &b[..n])
+    record::same_bytes(&a[..m], &b[..n])
 }
 
 // The rank of a conversion from the type a to the type b, each a whole record: "vectors, matrices and counted arrays of equal shape convert as their elements do",
@@ -43,13 +43,13 @@ pub fn type_rank(a: &[u8], b: &[u8]) -> Rank
     requires { ⌜ OneType (now b) ⌝ }
     ensures { λ r. ⌜ RankIs (now (a .entry)) (now (b .entry)) r ⌝ }
 {
-    if ty::same_bytes(a, b) {
+    if record::same_bytes(a, b) {
         return Rank::At(0);
     }
-    let Leaf::Kind(j) = ty::leaf_at(a, 0, 15) else {
+    let Leaf::Kind(j) = ty::leaf_at(a, 0, Limit::DEPTH) else {
         return Rank::Never;
     };
-    let Leaf::Kind(k) = ty::leaf_at(b, 0, 15) else {
+    let Leaf::Kind(k) = ty::leaf_at(b, 0, Limit::DEPTH) else {
         return Rank::Never;
     };
     if same_shape(a, b) {
@@ -58,14 +58,28 @@ pub fn type_rank(a: &[u8], b: &[u8]) -> Rank
     Rank::Never
 }
 
-// Whether a scalar of the one kind converts to the other.
+// Whether a scalar of the one kind converts to the other: where there is a rank, told without it, since every literal of a list is asked. A kind converts to itself,
+// AbstractInt to every kind but Bool, AbstractFloat to F32 and F16.
 pub fn kind_converts(from: u8, to: u8) -> bool
     ensures { λ r. ⌜ KindConverts from to r ⌝ }
 {
-    match literal::kind_rank(from, to) {
-        Rank::At(_) => true,
-        Rank::Never => false,
+    // a number over 6 is no kind's; said first, it lets the compiler know the length of what is compared
+    if to > Scalar::F16 {
+        return false;
     }
+    if from == to {
+        return true;
+    }
+    if from == Scalar::ABSTRACT_INT {
+        return to != Scalar::BOOL;
+    }
+    if from == Scalar::ABSTRACT_FLOAT {
+        if to == Scalar::F32 {
+            return true;
+        }
+        return to == Scalar::F16;
+    }
+    false
 }
 
 // Whether the type a converts to the type b, whatever they are.
@@ -100,11 +114,11 @@ fn rank_to(target: &[u8], args: &[u8]) -> Ranked
     ensures { λ r. ⌜ RanksTo (now (target .entry)) (now (args .entry)) r ⌝ }
 {
     if !ty::is_type(args) {
-        return Ranked::Refused(2);
+        return Ranked::Refused(Refusal::BAD_ARGUMENT);
     }
     match type_rank(args, target) {
         Rank::At(n) => Ranked::Rank(n),
-        Rank::Never => Ranked::Refused(9),
+        Rank::Never => Ranked::Refused(Refusal::NO_CONVERSION),
     }
 }
 
@@ -113,9 +127,9 @@ fn rank_to_runtime(args: &[u8]) -> Ranked
     ensures { λ r. ⌜ RanksToRuntime (now (args .entry)) r ⌝ }
 {
     if !ty::is_type(args) {
-        return Ranked::Refused(2);
+        return Ranked::Refused(Refusal::BAD_ARGUMENT);
     }
-    Ranked::Refused(9)
+    Ranked::Refused(Refusal::NO_CONVERSION)
 }
 
 // The source's `conversion_rank`: the rank of the conversion of the one type that the arguments are into the target. Nothing is assumed of the bytes.
@@ -125,150 +139,11 @@ pub fn conversion_rank(target: &[u8], args: &[u8]) -> Ranked
     match ty::read_target(target) {
         Target::Type => rank_to(target, args),
         Target::Runtime => rank_to_runtime(args),
-        Target::Array => Ranked::Refused(1),
-        Target::Vector(_) => Ranked::Refused(1),
-        Target::Matrix(_, _) => Ranked::Refused(1),
-        Target::Bad => Ranked::Refused(1),
+        Target::Array => Ranked::Refused(Refusal::BAD_TARGET),
+        Target::Vector(_) => Ranked::Refused(Refusal::BAD_TARGET),
+        Target::Matrix(_, _) => Ranked::Refused(Refusal::BAD_TARGET),
+        Target::Bad => Ranked::Refused(Refusal::BAD_TARGET),
     }
-}
-
-// ---- bytes
-
-fn wide(x: u8) -> u64
-    ensures { λ r. ⌜ (r ≡ x) × (r < 256) ⌝ }
-{
-    x as u64
-}
-
-fn low(n: u64) -> u8
-    ensures { λ r. ⌜ r ≡ n % 256 ⌝ }
-{
-    (n % 256) as u8
-}
-
-// The number that `width` bytes are, the low byte first. It is read from its top, so that each step is one product and one sum.
-fn number_of(src: &[u8], at: usize, width: usize) -> u64
-    requires { ⌜ (width ≤ 8) × (at + width ≤ length (now src)) ⌝ }
-    ensures { λ r. ⌜ r ≡ numberAt (now (src .entry)) at width ⌝ }
-{
-    let mut n: u64 = 0;
-    let mut left = width;
-    while 0 < left {
-        left -= 1;
-        n = 256 * n + wide(src[at + left]);
-    }
-    n
-}
-
-// The same, eight bytes at once: a payload's width.
-fn get_le(src: &[u8], at: usize, width: usize) -> u64
-    requires { ⌜ (width ≤ 8) × (at + width ≤ length (now src)) ⌝ }
-    ensures { λ r. ⌜ r ≡ numberAt (now (src .entry)) at width ⌝ }
-{
-    if width == 8 {
-        return ty::eight(src, at);
-    }
-    number_of(src, at, width)
-}
-
-// The payload of the literal whose record begins at i, as wide as its kind says.
-pub fn payload_at(src: &[u8], i: usize) -> u64
-    requires { ⌜ i + (3 + widthOf (getD (now src) (i + 2) 0)) ≤ length (now src) ⌝ }
-    ensures { λ r. ⌜ r ≡ numberAt (now (src .entry)) (i + 3) (widthOf (getD (now (src .entry)) (i + 2) 0)) ⌝ }
-{
-    let j = src[i + 2];
-    let scalar = Scalar { kind: j };
-    get_le(src, i + 3, scalar.width())
-}
-
-// Two bytes.
-fn put_pair(out: &mut [u8], to: usize, a: u8, b: u8) -> usize
-    requires { ⌜ to + 2 ≤ length (now out) ⌝ }
-    ensures { λ r. ⌜ Put (now (out .entry)) to (a ∷ b ∷ []) r (now (out .exit)) ⌝ }
-{
-    out[to] = a;
-    out[to + 1] = b;
-    to + 2
-}
-
-// The eight bytes of n, the low byte first. Without a loop, so that the compiler makes one store of it.
-fn put_eight(out: &mut [u8], to: usize, n: u64) -> usize
-    requires { ⌜ to + 8 ≤ length (now out) ⌝ }
-    ensures { λ r. ⌜ Put (now (out .entry)) to (le 8 n) r (now (out .exit)) ⌝ }
-{
-    let a = n / 256;
-    let b = a / 256;
-    let c = b / 256;
-    let d = c / 256;
-    let e = d / 256;
-    let f = e / 256;
-    let g = f / 256;
-    let p = put_pair(out, to, low(n), low(a));
-    let q = put_pair(out, p, low(b), low(c));
-    let t = put_pair(out, q, low(d), low(e));
-    put_pair(out, t, low(f), low(g))
-}
-
-// The `width` lowest bytes of n, the low byte first.
-fn put_bytes(out: &mut [u8], to: usize, width: usize, n: u64) -> usize
-    requires { ⌜ to + width ≤ length (now out) ⌝ }
-    ensures { λ r. ⌜ Put (now (out .entry)) to (le width n) r (now (out .exit)) ⌝ }
-{
-    let mut i = to;
-    let mut high = n;
-    let mut left = width;
-    while 0 < left {
-        out[i] = low(high);
-        high = high / 256;
-        i += 1;
-        left -= 1;
-    }
-    i
-}
-
-// The same, eight bytes at once: a payload's width.
-pub fn put_le(out: &mut [u8], to: usize, width: usize, n: u64) -> usize
-    requires { ⌜ to + width ≤ length (now out) ⌝ }
-    ensures { λ r. ⌜ Put (now (out .entry)) to (le width n) r (now (out .exit)) ⌝ }
-{
-    if width == 8 {
-        return put_eight(out, to, n);
-    }
-    put_bytes(out, to, width, n)
-}
-
-// The mark of a value's record: `V` and a letter.
-pub fn put_mark(out: &mut [u8], to: usize, letter: u8) -> usize
-    requires { ⌜ to + 2 ≤ length (now out) ⌝ }
-    ensures { λ r. ⌜ Put (now (out .entry)) to (‘V’ ∷ letter ∷ []) r (now (out .exit)) ⌝ }
-{
-    put_pair(out, to, b'V', letter)
-}
-
-// A literal's record: a mark, the kind and the payload, as wide as the kind says.
-pub fn put_literal(out: &mut [u8], to: usize, kind: u8, payload: u64) -> usize
-    requires { ⌜ to + (3 + widthOf kind) ≤ length (now out) ⌝ }
-    ensures { λ r. ⌜ Put (now (out .entry)) to (literalOf kind payload) r (now (out .exit)) ⌝ }
-{
-    let scalar = Scalar { kind: kind };
-    let p = put_mark(out, to, b's');
-    out[p] = kind;
-    put_le(out, p + 1, scalar.width(), payload)
-}
-
-// The bytes from `from` up to `end`.
-pub fn copy(src: &[u8], from: usize, end: usize, out: &mut [u8], to: usize) -> usize
-    requires { ⌜ (from ≤ end) × (end ≤ length (now src)) × (to + (end - from) ≤ length (now out)) ⌝ }
-    ensures { λ r. ⌜ Put (now (out .entry)) to (take (end - from) (drop from (now (src .entry)))) r (now (out .exit)) ⌝ }
-{
-    let mut i = from;
-    let mut p = to;
-    while i < end {
-        out[p] = src[i];
-        i += 1;
-        p += 1;
-    }
-    p
 }
 
 // ---- one item of a value's record: a literal, or a mark with its counts
@@ -280,7 +155,7 @@ pub fn item_end(src: &[u8], i: usize) -> usize
 {
     let mark = src[i + 1];
     if mark == b's' {
-        return i + ty::literal_len(src[i + 2]);
+        return i + record::literal_len(src[i + 2]);
     }
     if mark == b'v' {
         return i + 3;
@@ -293,15 +168,15 @@ fn literal_at(src: &[u8], i: usize, k: u8) -> Converted
     requires { ⌜ i + (3 + widthOf (getD (now src) (i + 2) 0)) ≤ length (now src) ⌝ }
     ensures { λ r. ⌜ r ≡ literalTo k (now (src .entry)) i ⌝ }
 {
-    literal::convert_literal(k, src[i + 2], payload_at(src, i))
+    literal::convert_literal(k, src[i + 2], record::payload_at(src, i))
 }
 
 // Whether that literal converts to the kind k.
-pub fn literal_fits(src: &[u8], i: usize, k: u8) -> bool
+pub fn fits_at(src: &[u8], i: usize, k: u8) -> bool
     requires { ⌜ i + (3 + widthOf (getD (now src) (i + 2) 0)) ≤ length (now src) ⌝ }
     ensures { λ r. ⌜ r ≡ some? (literalAs k (now (src .entry)) i) ⌝ }
 {
-    literal::literal_fits(k, src[i + 2], payload_at(src, i))
+    literal::literal_fits(k, src[i + 2], record::payload_at(src, i))
 }
 
 // Whether the item converts to the kind k; a mark always does.
@@ -313,7 +188,7 @@ fn item_fits(src: &[u8], i: usize, k: u8) -> bool
     if mark != b's' {
         return true;
     }
-    literal_fits(src, i, k)
+    fits_at(src, i, k)
 }
 
 // The item, a literal converted to the kind k, a mark as it stands.
@@ -324,10 +199,10 @@ fn put_item(src: &[u8], i: usize, k: u8, out: &mut [u8], to: usize) -> usize
     let mark = src[i + 1];
     if mark != b's' {
         let end = item_end(src, i);
-        return copy(src, i, end, out, to);
+        return record::copy(src, i, end, out, to);
     }
     match literal_at(src, i, k) {
-        Converted::To(p) => put_literal(out, to, k, p),
+        Converted::To(p) => record::put_literal(out, to, k, p),
         Converted::Unfit => to,
     }
 }
@@ -394,6 +269,6 @@ pub fn write_converted(
 {
     match ty::leaf_at(target, at, depth) {
         Leaf::Kind(k) => convert(src, from, end, k, out, to),
-        Leaf::Struct => copy(src, from, end, out, to),
+        Leaf::Struct => record::copy(src, from, end, out, to),
     }
 }

@@ -1,13 +1,14 @@
 // The program `ctor`: its standard input to one line.
-use call::Written;
-use line::Input;
+use ctor_line::Input;
+use error::Refusal;
+use error::Written;
 ghost use mathlib.Core.Path.{_≡_};
 ghost use Prim.Native.Nat.{_+_, _≤_};
 ghost use lib.ListN.{length};
 ghost use Rattle.meaning.specs.Entries.{buildAnswer, runCtor};
-ghost use Rattle.conv.specs.Writers.{Put};
-ghost use Rattle.call.specs.Told.{Told};
-ghost use Rattle.line.specs.Split.{asked};
+ghost use Rattle.record.specs.Bytes.{Put};
+ghost use Rattle.error.specs.Told.{Told};
+ghost use Rattle.ctor_line.specs.Split.{asked};
 
 // The answer to an input whose target has n bytes.
 fn ask(input: &[u8], n: usize, buffer: &mut [u8]) -> Written
@@ -26,12 +27,12 @@ fn run(input: &[u8], out: &mut [u8]) -> usize
     ensures { λ r. ⌜ r ≤ length (now (out .exit)) ⌝ }
 {
     let mut buffer = [0u8; 65536];
-    match line::split(input) {
+    match ctor_line::split(input) {
         Input::Call(n) => {
             let answer = ask(input, n, &mut buffer);
-            line::put_line(answer, &buffer, out)
+            ctor_line::put_line(answer, &buffer, out)
         }
-        Input::Bad => line::put_line(Written::Refused(1), &buffer, out),
+        Input::Bad => ctor_line::put_line(Written::Refused(Refusal::BAD_TARGET), &buffer, out),
     }
 }
 

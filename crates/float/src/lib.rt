@@ -93,7 +93,7 @@ fn infinity(p: u64, emax: u64) -> u64
 // ---- from a pattern or an integer to its parts
 
 // Any x is read; bits above the sign's count as the sign. The largest field is that of the infinities and NaNs, and the field 0 has no leading one.
-pub fn unpack(p: u64, emax: u64, w: u64, x: u64) -> Parts
+fn unpack(p: u64, emax: u64, w: u64, x: u64) -> Parts
     requires { ⌜ Layout p emax w ⌝ }
     ensures { λ r. ⌜ Stands (value p emax x) r ⌝ }
 {
@@ -208,7 +208,7 @@ fn pack(p: u64, emax: u64, m: u64, e: u64) -> u64
 }
 
 // The pattern of the value nearest to a number, by one rounding; the NaN made has the sign clear and the fraction's highest bit alone.
-pub fn assemble(p: u64, emax: u64, v: Parts) -> u64
+fn assemble(p: u64, emax: u64, v: Parts) -> u64
     requires { ⌜ Format p emax ⌝ }
     requires { ⌜ exponent v < 2100 ⌝ }
     ensures { λ r. ⌜ r ≡ bits p emax (meaning v) ⌝ }

@@ -7,20 +7,21 @@ use Rattle.meaning.specs.Kinds.{Kind, kindNo}
 use Rattle.meaning.specs.Trees.{Ty, Ts, Tv, Tm, Ta, Tu, Tys}
 use Rattle.meaning.specs.Records.{le}
 use Rattle.ty.specs.Stands.{Stands, StandAll, Standing}
-use Rattle.ty.specs.Fronts.{Same, kindNumber}
+use Rattle.ty.specs.TypeFronts.{Same, kindNumber}
 use Rattle.ty.specs.Heads.{headOf, HeadAt}
 use Rattle.ty.specs.declared.Head.{Head}
 use Rattle.ty.specs.declared.Head.the-variants.{Scalar, Vector, Matrix, Array, Struct}
 use Rattle.ty.proofs.Heads.{scalar-is, vector-is, matrix-is, array-is, struct-is, first-is, none-is, StructIs, FirstIs}
 use Rattle.ty.proofs.Numbers.{is-number}
 use Rattle.ty.proofs.Walks.{same-trans}
+use Rattle.record.specs.Bytes.{Starts}
 use Rattle.inst.specs.Values.{Fits, FitsAll, copies}
-use Rattle.inst.specs.Answers.{Told, Says, Starts, pairOf, ReadAs, ReadEach, ReadAll, Literals, LiteralAt, VectorAt, MatrixAt}
+use Rattle.inst.specs.Reading.{Told, Says, pairOf, ReadAs, ReadEach, ReadAll, Literals, LiteralAt, VectorAt, MatrixAt}
 use Rattle.inst.specs.declared.ValueEnd.{ValueEnd}
 use Rattle.inst.specs.declared.Derived.{Derived}
 use Rattle.inst.specs.declared.Derived.the-variants.{Ends, Unfit}
-use Rattle.inst.proofs.Rows.{says-as, says-pair, nil-fits, one-on, none-on}
-use Rattle.inst.proofs.Parts.{partsOf, frontBytes}
+use Rattle.inst.proofs.ValueRows.{says-as, says-pair, nil-fits, one-on, none-on}
+use Rattle.inst.proofs.ValueParts.{partsOf, frontBytes}
 use Rattle.inst.proofs.Starts.{fits-starts, parts-same}
 use lib.Dec.{T}
 

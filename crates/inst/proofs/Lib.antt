@@ -1,10 +1,6 @@
-pub mod Rows
+-- values in a row; literals; a value by its parts; its front; by a type's record
+pub mod ValueRows
 pub mod Lits
-pub mod Parts
+pub mod ValueParts
 pub mod Starts
 pub mod ByType
-pub mod Fronts
-pub mod Writes
-pub mod Typings
-pub mod Rest
-pub mod Skips

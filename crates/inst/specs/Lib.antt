@@ -1,4 +1,2 @@
 pub mod Values
-pub mod Answers
-pub mod Derives
-pub mod Counts
+pub mod Reading

@@ -2,7 +2,7 @@
 use mathlib.Core.Path.{_≡_, refl, sym, ap, ap₂, _∙_, subst}
 use mathlib.Core.Option.{Option, none, some}
 use mathlib.Core.List.{List, [], _∷_, _++_, map}
-use mathlib.Core.Bool.{Bool, true, false, not, _&&_, _||_, cond}
+use mathlib.Core.Bool.{Bool, true, false, not, _&&_, _||_, and-assoc, cond}
 use Prim.Native.Nat.{ℕ, zero, suc, _*_}
 use lib.Dec.{T, leb, eqb, eqb→eq, eqb-refl}
 use lib.ListN.{length}
@@ -112,11 +112,7 @@ conv-all-lits s k j r (p ∷ ps) g =
 pub every-append : {A : Type 0} (f : A → Bool) (a b : List A) → every f (a ++ b) ≡ every f a && every f b
 unfolding every
 every-append f [] b = refl
-every-append f (x ∷ a) b = ap (λ (t : Bool). f x && t) (every-append f a b) ∙ and-assoc (f x) (every f a) (every f b)
-  where
-    and-assoc : (x y z : Bool) → x && (y && z) ≡ (x && y) && z
-    and-assoc true y z = refl
-    and-assoc false y z = refl
+every-append f (x ∷ a) b = ap (λ (t : Bool). f x && t) (every-append f a b) ∙ sym (and-assoc (f x) (every f a) (every f b))
 
 -- ---- values
 

@@ -1,7 +1,7 @@
 -- The third demand at the level of trees: the untemplated vector.
 use mathlib.Core.Path.{_≡_, refl, sym, ap, ap₂, _∙_, subst}
 use mathlib.Core.Option.{Option, none, some}
-use mathlib.Core.List.{List, [], _∷_, _++_, map}
+use mathlib.Core.List.{List, [], _∷_, _++_, map, map-append}
 use mathlib.Core.Bool.{Bool, true, false, not, _&&_, _||_, cond}
 use Prim.Native.Nat.{ℕ, zero, suc, _*_, _+_, _≤_}
 use native.Mathlib.Omega.{arith}
@@ -57,10 +57,6 @@ unfolding commonFrom
 from-append o [] b = refl
 from-append o (x ∷ a) b = from-append (meet o x) a b
 
-map-append : (a b : List Val) → map typeOf (a ++ b) ≡ map typeOf a ++ map typeOf b
-map-append [] b = refl
-map-append (v ∷ a) b = ap (typeOf v ∷_) (map-append a b)
-
 from-lits : (o : Option Ty) (j : Kind) (p : ℕ) (ps : List ℕ) → commonFrom o (map typeOf (map (Vs j) (p ∷ ps))) ≡ meet o (Ts j)
 unfolding commonFrom typeOf
 from-lits o j p [] = refl
@@ -90,7 +86,7 @@ qjoin : (v : Val) (l : List Val) → QPart v → QParts l → QParts (v ∷ l)
 unfolding flattened total all every partOf refused commonFrom
 qjoin v l (fine j e n c) (fine ks f m d q) =
     QParts.fine (j ∷ ks) (rw (e, f)) (ap₂ _+_ n m ∙ sym (length-append (parts v) (flattened l)))
-    (λ o. ap (commonFrom o) (map-append (parts v) (flattened l)) ∙ (from-append o (map typeOf (parts v)) (map typeOf (flattened l))
+    (λ o. ap (commonFrom o) (map-append typeOf (parts v) (flattened l)) ∙ (from-append o (map typeOf (parts v)) (map typeOf (flattened l))
     ∙ (ap (λ (x : Option Ty). commonFrom x (map typeOf (flattened l))) (c o) ∙ d (meet o (Ts j)))))
     (λ s k. every-append (fitsLeaf false s (some k)) (parts v) (flattened l) ∙ ap₂ _&&_ (fits-parts s k j v e) (q s k))
 qjoin v l (fine j e n c) (bad h f) =
@@ -175,7 +171,7 @@ qall : (v : Val) (l : List Val) → T (shapedTy (typeOf v)) → QPart v → QPar
 unfolding flattened total all every partOf refused common
 qall v l h (fine j e n c) (fine ks f m d q) =
     QAll.fine (j ∷ ks) (rw (e, f)) (ap₂ _+_ n m ∙ sym (length-append (parts v) (flattened l)))
-    (ap common (map-append (parts v) (flattened l)) ∙ (first-common v j h e (map typeOf (flattened l)) ∙ d (some (Ts j))))
+    (ap common (map-append typeOf (parts v) (flattened l)) ∙ (first-common v j h e (map typeOf (flattened l)) ∙ d (some (Ts j))))
     (λ s k. every-append (fitsLeaf false s (some k)) (parts v) (flattened l) ∙ ap₂ _&&_ (fits-parts s k j v e) (q s k))
 qall v l h (fine j e n c) (bad g f) =
     QAll.bad (rw e (stuck (all partOf (map typeOf l)) (λ bs. ok (j ∷ bs)) g))

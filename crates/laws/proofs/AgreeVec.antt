@@ -2,7 +2,7 @@
 use mathlib.Core.Path.{_≡_, refl, sym, ap, ap₂, _∙_, subst}
 use mathlib.Core.Option.{Option, none, some}
 use mathlib.Core.List.{List, [], _∷_, _++_, map}
-use mathlib.Core.Bool.{Bool, true, false, not, _&&_, _||_, cond}
+use mathlib.Core.Bool.{Bool, true, false, not, _&&_, _||_, and-assoc, cond}
 use Prim.Native.Nat.{ℕ, zero, suc, _*_, _+_}
 use native.Mathlib.Omega.{arith}
 use lib.Dec.{T, le→leb, leb→le, leb, eqb, eqb→eq, eqb-refl}
@@ -183,11 +183,7 @@ toScalar k l = every (λ a. converts a (Ts k)) (map typeOf l)
 pub scalar-append : (k : Kind) (a b : List Val) → toScalar k (a ++ b) ≡ toScalar k a && toScalar k b
 unfolding toScalar every
 scalar-append k [] b = refl
-scalar-append k (v ∷ a) b = ap (λ (x : Bool). converts (typeOf v) (Ts k) && x) (scalar-append k a b) ∙ and-assoc (converts (typeOf v) (Ts k)) (toScalar k a) (toScalar k b)
-  where
-    and-assoc : (x y z : Bool) → x && (y && z) ≡ (x && y) && z
-    and-assoc true y z = refl
-    and-assoc false y z = refl
+scalar-append k (v ∷ a) b = ap (λ (x : Bool). converts (typeOf v) (Ts k) && x) (scalar-append k a b) ∙ sym (and-assoc (converts (typeOf v) (Ts k)) (toScalar k a) (toScalar k b))
 
 scalar-lits : (k j : Kind) (ps : List ℕ) → T (leb 1 (length ps)) → toScalar k (map (Vs j) ps) ≡ converts (Ts j) (Ts k)
 unfolding toScalar every typeOf

@@ -15,6 +15,7 @@ use Rattle.meaning.specs.Read.{pTy}
 use Rattle.laws.proofs.AgreeConv.{AllTy, all-first}
 use Rattle.laws.proofs.Back.{and-l, and-r, ty-back}
 use Rattle.laws.proofs.BackVal.{drop-len, take-len}
+use Rattle.laws.proofs.Sound.{same-read}
 
 pub le-len : (w n : ℕ) → length (le w n) ≡ w
 unfolding le
@@ -58,10 +59,7 @@ mutual
   vals-len (v ▹ m) g =
       length-append (valBytes v) (valsBytes m) ∙ ap₂ _+_ (val-len v (and-l (shapedVal v) (shapedVals m) g)) (vals-len m (and-r (shapedVal v) (shapedVals m) g))
 
-fst-ty : {a b : Ty} → _≡_ {A = Option (Ty × List ℕ)} (some (a, [])) (some (b, [])) → a ≡ b
-fst-ty {a} {b} h = ap {A = Option (Ty × List ℕ)} (λ x. let t : Ty = elim x [ none ↦ a | some r ↦ r .0 ] in t) h
-
 pub bytes-same : (a b : Ty) → T (shapedTy a) → T (shapedTy b) → tyBytes a ≡ tyBytes b → a ≡ b
 bytes-same a b g h e =
     let d : ℕ = suc (depth a + depth b) in
-    fst-ty (sym (ty-back a d g (omega arith) []) ∙ (ap (λ (s : List ℕ). pTy d (s ++ [])) e ∙ ty-back b d h (omega arith) []))
+    same-read (sym (ty-back a d g (omega arith) []) ∙ (ap (λ (s : List ℕ). pTy d (s ++ [])) e ∙ ty-back b d h (omega arith) []))

@@ -20,7 +20,9 @@ pub mod AgreeQm
 pub mod AgreeQv
 pub mod AgreeAll
 pub mod Named
+pub mod Each
 pub mod Length
 pub mod Built
 pub mod Handed
 pub mod Third
+pub mod Left

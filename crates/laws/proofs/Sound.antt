@@ -35,6 +35,10 @@ Any a = Unit {0}
 pub some-inj : {A : Type 0} {x y : A} → some x ≡ some y → x ≡ y
 some-inj e = cc
 
+-- one reading gives one result
+pub same-read : {A B : Type 0} {a b : A} {x y : B} → _≡_ {A = Option (A × B)} (some (a, x)) (some (b, y)) → a ≡ b
+same-read {A} {B} e = ap (λ (r : A × B). r .0) (some-inj e)
+
 pub no-some : {A : Type 0} {x : A} {P : Type 0} → none ≡ some x → P
 no-some e = absurd (let z : _≡_ {A = ℕ} 0 1 = cc in omega arith)
 

@@ -1,2 +1,2 @@
-pub mod Rules
-pub mod Payloads
+pub mod Tests
+pub mod Stages

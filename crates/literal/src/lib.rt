@@ -1,4 +1,5 @@
 // One literal: its conversion without a constructor (conv.rs, `Convert for LiteralInstance`), and the scalar constructors (builtin/ctor.rs).
+use error::Refusal;
 use float::Parts;
 use kind::Scalar;
 ghost use mathlib.Core.Path.{_≡_};
@@ -7,13 +8,15 @@ ghost use mathlib.Core.Bool.{cond, not, _&&_};
 ghost use Prim.Native.Nat.{_+_, _≤_, _<_, _^_};
 ghost use lib.Dec.{eqb};
 ghost use Rattle.meaning.specs.Kinds.{bool, aint, afloat, i32, u32, f32, f16, kindOf, fromAint, fromAfloat};
-ghost use Rattle.meaning.specs.Floats.{binary16, binary32, bits, outside};
+ghost use Rattle.meaning.specs.Floats.{binary16, outside};
 ghost use Rattle.meaning.specs.Floats as Floats;
-ghost use Rattle.meaning.specs.Scalars.{number, within, toward, nonzero, some?};
+ghost use Rattle.meaning.specs.Scalars.{beforeF16, number, within, toward, nonzero, some?};
+ghost use Rattle.meaning.specs.Answers.{refusalOf};
+ghost use Rattle.meaning.specs.Entries.{stageOf};
 ghost use Rattle.laws.proofs.Digits.{Format};
 ghost use Rattle.kind.specs.Ends.{ofKind};
-ghost use Rattle.float.specs.Taken.{Stands, Layout, meaning, exponent};
-ghost use Rattle.literal.specs.Told.{rankOf, rankBetween, convertedOf, convFrom, convBetween, numberOf, Short, inRange, heldIn, paper, tried, before, Always, When, noCtor, WhenTo, ctorBetween};
+ghost use Rattle.float.specs.Taken.{Stands, Layout, meaning};
+ghost use Rattle.literal.specs.LiteralAnswers.{rankOf, rankBetween, convertedOf, convFrom, convBetween, numberOf, Short, inRange, heldIn, stagedOf, paper, tried, Always, When, noCtor, WhenTo};
 
 // The rank of a conversion between two kinds, if there is one.
 pub enum Rank {
@@ -30,7 +33,6 @@ pub enum Converted {
 // What a scalar constructor makes of a literal: the payload; or a refusal. `paper` gives each its number.
 pub enum Made {
     Of(u64),
-    NoStage,
     NoTarget,
     NoArgument,
     Abstract,
@@ -47,6 +49,37 @@ impl Stage {
     pub const OVERRIDE: u8 = 1;
 
     pub const EXEC: u8 = 2;
+}
+
+// What the stage decides, read once where a call comes in: `checked`, whether f32 and f16 refuse a number outside their range (21).
+pub struct Rules {
+    pub checked: bool,
+}
+
+// The rules at a stage, or that there is no such stage.
+pub enum Staged {
+    At(Rules),
+    Never,
+}
+
+// A whole number by its sign and its magnitude.
+struct Whole {
+    negative: bool,
+    magnitude: u64,
+}
+
+// ---- the stage
+
+// "Stage and kind choices: matches": the stage picks the rules, and that stands here alone.
+pub fn rules_at(stage: u8) -> Staged
+    ensures { λ r. ⌜ r ≡ stagedOf (stageOf stage) ⌝ }
+{
+    match stage {
+        Stage::CONST => Staged::At(Rules { checked: true }),
+        Stage::OVERRIDE => Staged::At(Rules { checked: false }),
+        Stage::EXEC => Staged::At(Rules { checked: false }),
+        _ => Staged::Never,
+    }
 }
 
 // ---- ranks
@@ -108,28 +141,49 @@ pub fn kind_rank(from: u8, to: u8) -> Rank
 
 // ---- the number of a literal
 
-// Two's complement, in 64 bits.
-fn abstract_int_parts(bits: u64) -> Parts
-    ensures { λ r. ⌜ Stands (number aint bits) r ⌝ }
+// Of an AbstractInt: two's complement, in 64 bits.
+fn abstract_int_number(bits: u64) -> Whole
+    ensures { λ r. ⌜ number aint bits ≡ Floats.integer (r .negative) (r .magnitude) ⌝ }
 {
     if bits < 0x8000_0000_0000_0000 {
-        float::int_parts(false, bits)
+        Whole {
+            negative: false,
+            magnitude: bits,
+        }
     } else {
-        float::int_parts(true, !bits + 1)
+        Whole {
+            negative: true,
+            magnitude: !bits + 1,
+        }
     }
 }
 
-// The same in 32 bits; a payload of more bits has no magnitude left.
-fn i32_parts(bits: u64) -> Parts
-    ensures { λ r. ⌜ Stands (number i32 bits) r ⌝ }
+// Of an I32, in 32 bits; a payload of more bits has no magnitude left.
+fn i32_number(bits: u64) -> Whole
+    ensures { λ r. ⌜ number i32 bits ≡ Floats.integer (r .negative) (r .magnitude) ⌝ }
 {
     if bits < 0x8000_0000 {
-        return float::int_parts(false, bits);
+        return Whole {
+            negative: false,
+            magnitude: bits,
+        };
     }
     if bits < 0x1_0000_0000 {
-        return float::int_parts(true, 0x1_0000_0000 - bits);
+        return Whole {
+            negative: true,
+            magnitude: 0x1_0000_0000 - bits,
+        };
     }
-    float::int_parts(true, 0)
+    Whole {
+        negative: true,
+        magnitude: 0,
+    }
+}
+
+fn whole_parts(n: Whole) -> Parts
+    ensures { λ r. ⌜ Stands (Floats.integer (n .negative) (n .magnitude)) r ⌝ }
+{
+    float::int_parts(n.negative, n.magnitude)
 }
 
 // The number of a literal, by its kind.
@@ -138,9 +192,9 @@ fn parts_of(from: u8, bits: u64) -> Parts
 {
     match from {
         Scalar::BOOL => float::int_parts(false, bits),
-        Scalar::ABSTRACT_INT => abstract_int_parts(bits),
+        Scalar::ABSTRACT_INT => whole_parts(abstract_int_number(bits)),
         Scalar::ABSTRACT_FLOAT => float::f64_parts(bits),
-        Scalar::I32 => i32_parts(bits),
+        Scalar::I32 => whole_parts(i32_number(bits)),
         Scalar::U32 => float::int_parts(false, bits),
         Scalar::F32 => float::f32_parts(bits),
         Scalar::F16 => float::f16_parts(bits),
@@ -171,15 +225,13 @@ fn integer(to: u8, v: Parts) -> Converted
     integer_within(k.low_end(), k.high_end(), v)
 }
 
-// The pattern nearest to a number, if it is a finite number's.
-fn nearest(p: u64, emax: u64, w: u64, v: Parts) -> Converted
+// A pattern made, if it is a finite number's.
+fn finite(p: u64, emax: u64, w: u64, made: u64) -> Converted
     requires { ⌜ Layout p emax w ⌝ }
-    requires { ⌜ exponent v < 2100 ⌝ }
-    ensures { λ r. ⌜ r ≡ convertedOf (cond (Floats.finite p emax (bits p emax (meaning v))) (some (bits p emax (meaning v))) none) ⌝ }
+    ensures { λ r. ⌜ r ≡ convertedOf (cond (Floats.finite p emax made) (some made) none) ⌝ }
 {
-    let b = float::assemble(p, emax, v);
-    if float::is_finite(p, emax, w, b) {
-        Converted::To(b)
+    if float::is_finite(p, emax, w, made) {
+        Converted::To(made)
     } else {
         Converted::Unfit
     }
@@ -190,14 +242,15 @@ fn nearest(p: u64, emax: u64, w: u64, v: Parts) -> Converted
 fn convert_abstract_int(to: u8, bits: u64) -> Converted
     ensures { λ r. ⌜ r ≡ convertedOf (convFrom aint to bits) ⌝ }
 {
+    let n = abstract_int_number(bits);
     match to {
         Scalar::BOOL => Converted::Unfit,
         Scalar::ABSTRACT_INT => Converted::To(bits),
-        Scalar::ABSTRACT_FLOAT => nearest(53, 1023, 11, abstract_int_parts(bits)),
-        Scalar::I32 => integer(Scalar::I32, abstract_int_parts(bits)),
-        Scalar::U32 => integer(Scalar::U32, abstract_int_parts(bits)),
-        Scalar::F32 => nearest(24, 127, 8, abstract_int_parts(bits)),
-        Scalar::F16 => nearest(11, 15, 5, abstract_int_parts(bits)),
+        Scalar::ABSTRACT_FLOAT => finite(53, 1023, 11, float::int_to_f64(n.negative, n.magnitude)),
+        Scalar::I32 => integer(Scalar::I32, whole_parts(n)),
+        Scalar::U32 => integer(Scalar::U32, whole_parts(n)),
+        Scalar::F32 => finite(24, 127, 8, float::int_to_f32(n.negative, n.magnitude)),
+        Scalar::F16 => finite(11, 15, 5, float::int_to_f16(n.negative, n.magnitude)),
         _ => Converted::Unfit,
     }
 }
@@ -212,8 +265,8 @@ fn convert_abstract_float(to: u8, bits: u64) -> Converted
         Scalar::ABSTRACT_FLOAT => Converted::To(bits),
         Scalar::I32 => Converted::Unfit,
         Scalar::U32 => Converted::Unfit,
-        Scalar::F32 => nearest(24, 127, 8, float::f64_parts(bits)),
-        Scalar::F16 => nearest(11, 15, 5, float::f64_parts(bits)),
+        Scalar::F32 => finite(24, 127, 8, float::f64_to_f32(bits)),
+        Scalar::F16 => finite(11, 15, 5, float::f64_to_f16(bits)),
         _ => Converted::Unfit,
     }
 }
@@ -260,14 +313,15 @@ fn integer_fits(to: u8, v: Parts) -> bool
 fn abstract_int_fits(to: u8, bits: u64) -> bool
     ensures { λ r. ⌜ r ≡ some? (convFrom aint to bits) ⌝ }
 {
+    let v = whole_parts(abstract_int_number(bits));
     match to {
         Scalar::BOOL => false,
         Scalar::ABSTRACT_INT => true,
         Scalar::ABSTRACT_FLOAT => true,
-        Scalar::I32 => integer_fits(Scalar::I32, abstract_int_parts(bits)),
-        Scalar::U32 => integer_fits(Scalar::U32, abstract_int_parts(bits)),
+        Scalar::I32 => integer_fits(Scalar::I32, v),
+        Scalar::U32 => integer_fits(Scalar::U32, v),
         Scalar::F32 => true,
-        Scalar::F16 => float::rounds_finite(11, 15, abstract_int_parts(bits)),
+        Scalar::F16 => float::rounds_finite(11, 15, v),
         _ => false,
     }
 }
@@ -345,30 +399,13 @@ fn fitting(to: u8, from: u8, bits: u64) -> Made
     }
 }
 
-// The pattern of the nearest f32.
-fn f32_bits(from: u8, bits: u64) -> u64
-    ensures { λ r. ⌜ r ≡ binary32 Floats.bits (numberOf from bits) ⌝ }
-{
-    float::assemble(24, 127, parts_of(from, bits))
-}
-
-// The pattern of an f16. "AbstractFloat and integers are rounded to f32 first, then to f16: two roundings": how f16 rounds stands here alone.
-fn f16_bits(from: u8, bits: u64) -> u64
-    ensures { λ r. ⌜ r ≡ binary16 Floats.bits (before from (numberOf from bits)) ⌝ }
-{
-    if from == Scalar::F32 {
-        return float::assemble(11, 15, parts_of(from, bits));
-    }
-    float::f32_to_f16(f32_bits(from, bits))
-}
-
-// A payload made of a number; where the stage is checked, the number must lie in the format's finite range (21).
-fn ranged(p: u64, emax: u64, checked: bool, v: Parts, made: u64) -> Made
+// A payload made of a number; where the rules say so, the number must lie in the format's finite range (21).
+fn ranged(p: u64, emax: u64, rules: Rules, v: Parts, made: u64) -> Made
     requires { ⌜ Format p emax ⌝ }
     requires { ⌜ p ≤ emax + 1 ⌝ }
-    ensures { λ r. ⌜ paper r ≡ tried (cond (checked && outside p emax (meaning v)) 21 0) made ⌝ }
+    ensures { λ r. ⌜ paper r ≡ tried (cond (rules .checked && outside p emax (meaning v)) 21 0) made ⌝ }
 {
-    if !checked {
+    if !rules.checked {
         return Made::Of(made);
     }
     if float::outside(p, emax, v) {
@@ -378,17 +415,33 @@ fn ranged(p: u64, emax: u64, checked: bool, v: Parts, made: u64) -> Made
     }
 }
 
-// The f32 and the f16 of a literal, in their range where the stage is checked.
-fn f32_ranged(checked: bool, from: u8, bits: u64) -> Made
-    ensures { λ r. ⌜ paper r ≡ tried (cond (checked && binary32 outside (numberOf from bits)) 21 0) (binary32 Floats.bits (numberOf from bits)) ⌝ }
+// The f16 of a literal of another kind. "AbstractFloat and integers are rounded to f32 first, then to f16: two roundings": how f16 rounds stands here alone.
+fn f16_bits(from: u8, bits: u64) -> u64
+    ensures { λ r. ⌜ r ≡ ofKind 0 (λ k. binary16 Floats.bits (beforeF16 k (number k bits))) (kindOf from) ⌝ }
 {
-    ranged(24, 127, checked, parts_of(from, bits), f32_bits(from, bits))
+    match from {
+        Scalar::BOOL => float::f32_to_f16(float::int_to_f32(false, bits)),
+        Scalar::ABSTRACT_INT => {
+            let n = abstract_int_number(bits);
+            float::f32_to_f16(float::int_to_f32(n.negative, n.magnitude))
+        }
+        Scalar::ABSTRACT_FLOAT => float::f32_to_f16(float::f64_to_f32(bits)),
+        Scalar::I32 => {
+            let i = i32_number(bits);
+            float::f32_to_f16(float::int_to_f32(i.negative, i.magnitude))
+        }
+        Scalar::U32 => float::f32_to_f16(float::int_to_f32(false, bits)),
+        Scalar::F32 => float::f32_to_f16(bits),
+        Scalar::F16 => float::f32_to_f16(float::f16_to_f32(bits)),
+        _ => 0,
+    }
 }
 
-fn f16_ranged(checked: bool, from: u8, bits: u64) -> Made
-    ensures { λ r. ⌜ paper r ≡ tried (cond (checked && binary16 outside (numberOf from bits)) 21 0) (binary16 Floats.bits (before from (numberOf from bits))) ⌝ }
+// The same, in its range where the rules say so.
+fn f16_ranged(rules: Rules, from: u8, bits: u64) -> Made
+    ensures { λ r. ⌜ paper r ≡ tried (cond (rules .checked && binary16 outside (numberOf from bits)) 21 0) (ofKind 0 (λ k. binary16 Floats.bits (beforeF16 k (number k bits))) (kindOf from)) ⌝ }
 {
-    ranged(11, 15, checked, parts_of(from, bits), f16_bits(from, bits))
+    ranged(11, 15, rules, parts_of(from, bits), f16_bits(from, bits))
 }
 
 // ---- the five scalar constructors: each takes one literal of any kind, and "the same kind keeps its bits"
@@ -441,33 +494,42 @@ fn u32_ctor(from: u8, bits: u64) -> Made
     }
 }
 
-// `f32` of ctor.rs. Only an AbstractFloat is checked: no finite number of another kind lies outside f32's range.
-fn f32_ctor(checked: bool, from: u8, bits: u64) -> Made
-    ensures { λ r. ⌜ When checked f32 from bits r ⌝ }
+// `f32` of ctor.rs: the literal's kind picks the conversion. Only an AbstractFloat is checked: no finite number of another kind lies outside f32's range.
+fn f32_ctor(rules: Rules, from: u8, bits: u64) -> Made
+    ensures { λ r. ⌜ When rules f32 from bits r ⌝ }
 {
     match from {
-        Scalar::BOOL => Made::Of(f32_bits(from, bits)),
-        Scalar::ABSTRACT_INT => Made::Of(f32_bits(from, bits)),
-        Scalar::ABSTRACT_FLOAT => f32_ranged(checked, from, bits),
-        Scalar::I32 => Made::Of(f32_bits(from, bits)),
-        Scalar::U32 => Made::Of(f32_bits(from, bits)),
+        Scalar::BOOL => Made::Of(float::int_to_f32(false, bits)),
+        Scalar::ABSTRACT_INT => {
+            let n = abstract_int_number(bits);
+            Made::Of(float::int_to_f32(n.negative, n.magnitude))
+        }
+        Scalar::ABSTRACT_FLOAT => {
+            let v = float::f64_parts(bits);
+            ranged(24, 127, rules, v, float::f64_to_f32(bits))
+        }
+        Scalar::I32 => {
+            let i = i32_number(bits);
+            Made::Of(float::int_to_f32(i.negative, i.magnitude))
+        }
+        Scalar::U32 => Made::Of(float::int_to_f32(false, bits)),
         Scalar::F32 => Made::Of(bits),
-        Scalar::F16 => Made::Of(f32_bits(from, bits)),
+        Scalar::F16 => Made::Of(float::f16_to_f32(bits)),
         _ => Made::NoArgument,
     }
 }
 
 // `f16` of ctor.rs. Every other kind but Bool is checked.
-fn f16_ctor(checked: bool, from: u8, bits: u64) -> Made
-    ensures { λ r. ⌜ When checked f16 from bits r ⌝ }
+fn f16_ctor(rules: Rules, from: u8, bits: u64) -> Made
+    ensures { λ r. ⌜ When rules f16 from bits r ⌝ }
 {
     match from {
         Scalar::BOOL => Made::Of(f16_bits(from, bits)),
-        Scalar::ABSTRACT_INT => f16_ranged(checked, from, bits),
-        Scalar::ABSTRACT_FLOAT => f16_ranged(checked, from, bits),
-        Scalar::I32 => f16_ranged(checked, from, bits),
-        Scalar::U32 => f16_ranged(checked, from, bits),
-        Scalar::F32 => f16_ranged(checked, from, bits),
+        Scalar::ABSTRACT_INT => f16_ranged(rules, from, bits),
+        Scalar::ABSTRACT_FLOAT => f16_ranged(rules, from, bits),
+        Scalar::I32 => f16_ranged(rules, from, bits),
+        Scalar::U32 => f16_ranged(rules, from, bits),
+        Scalar::F32 => f16_ranged(rules, from, bits),
         Scalar::F16 => Made::Of(bits),
         _ => Made::NoArgument,
     }
@@ -487,9 +549,9 @@ fn abstract_ctor(from: u8) -> Made
 
 // ---- all of them
 
-// "Stage and kind choices: matches": the target's kind picks the constructor.
-fn construct(checked: bool, to: u8, from: u8, bits: u64) -> Made
-    ensures { λ r. ⌜ WhenTo checked to from bits r ⌝ }
+// "Stage and kind choices: matches": the target's kind picks the constructor. The answers come in the order 1, 2, 4, then 15 and 21.
+pub fn construct_literal(rules: Rules, to: u8, from: u8, bits: u64) -> Made
+    ensures { λ r. ⌜ WhenTo rules to from bits r ⌝ }
 {
     match to {
         Scalar::BOOL => bool_ctor(from, bits),
@@ -497,21 +559,22 @@ fn construct(checked: bool, to: u8, from: u8, bits: u64) -> Made
         Scalar::ABSTRACT_FLOAT => abstract_ctor(from),
         Scalar::I32 => i32_ctor(from, bits),
         Scalar::U32 => u32_ctor(from, bits),
-        Scalar::F32 => f32_ctor(checked, from, bits),
-        Scalar::F16 => f16_ctor(checked, from, bits),
+        Scalar::F32 => f32_ctor(rules, from, bits),
+        Scalar::F16 => f16_ctor(rules, from, bits),
         _ => Made::NoTarget,
     }
 }
 
-// "Stage and kind choices: matches": the stage picks whether f32 and f16 check their range, and that stands here alone. The answers come in the order 3, 1, 2, 4,
-// then 15 and 21.
-pub fn construct_literal(stage: u8, to: u8, from: u8, bits: u64) -> Made
-    ensures { λ r. ⌜ paper r ≡ ctorBetween stage to from bits ⌝ }
+// The number of a refusal, and 0 where a payload was made.
+pub fn refusal(made: Made) -> u8
+    ensures { λ r. ⌜ r ≡ refusalOf (paper made) ⌝ }
 {
-    match stage {
-        Stage::CONST => construct(true, to, from, bits),
-        Stage::OVERRIDE => construct(false, to, from, bits),
-        Stage::EXEC => construct(false, to, from, bits),
-        _ => Made::NoStage,
+    match made {
+        Made::Of(_) => 0,
+        Made::NoTarget => Refusal::BAD_TARGET,
+        Made::NoArgument => Refusal::BAD_ARGUMENT,
+        Made::Abstract => Refusal::NOT_CONSTRUCTIBLE,
+        Made::Integer => Refusal::INTEGER_RANGE,
+        Made::Float => Refusal::FLOAT_RANGE,
     }
 }

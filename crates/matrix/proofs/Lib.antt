@@ -1,7 +1,4 @@
--- columns and scalars; the shape; the matrix handed over; one level down; the arguments; one argument
-pub mod Columns
-pub mod Shapes
-pub mod Hands
+-- one level down; the arguments; one argument
 pub mod Downs
-pub mod Parts
-pub mod Ones
+pub mod MatrixParts
+pub mod OneToMatrix

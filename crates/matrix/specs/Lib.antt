@@ -1,3 +1,1 @@
-pub mod Columns
-pub mod Shapes
-pub mod Asked
+pub mod MatrixRules

@@ -14,7 +14,7 @@ use Rattle.ty.specs.Stands.{Stands, StandAll, Standing}
 use Rattle.ty.specs.Heads.{headOf, HeadAt}
 use Rattle.ty.specs.declared.Head.{Head}
 use Rattle.ty.specs.declared.Head.the-variants.{Scalar, Vector, Matrix, Array, Struct}
-use Rattle.ty.proofs.Places.{at-of, past}
+use Rattle.record.proofs.Places.{at-of, past}
 
 -- ---- what each front says of the type t that stands at `at` and ends at e
 

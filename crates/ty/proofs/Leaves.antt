@@ -1,11 +1,9 @@
 -- The scalar kind at the bottom of a type, and the byte that says it.
 use mathlib.Core.Path.{_≡_, refl, sym, ap, _∙_}
 use mathlib.Core.Option.{some}
-use mathlib.Core.List.{List, [], _∷_, _++_, append-assoc}
-use Prim.Native.Nat.{ℕ, _+_, _-_, _/_, _%_, _<_}
+use mathlib.Core.List.{List, [], _∷_, _++_}
+use Prim.Native.Nat.{ℕ, _+_, _-_, _/_, _%_}
 use native.Mathlib.Omega.{arith}
-use lib.ListN.{length, getD, drop, length-append}
-use lib.Seq.{getD-append-add}
 use Rattle.meaning.specs.Kinds.{Kind, kindNo}
 use Rattle.meaning.specs.Trees.{Ty, Ts, Tv, Tm, Ta, Tu, leaf, setLeaf}
 use Rattle.meaning.specs.Records.{tyBytes, le}
@@ -14,7 +12,6 @@ use Rattle.ty.specs.Heads.{headOf, leafOf, LeafAt}
 use Rattle.ty.specs.declared.Leaf.{Leaf}
 use Rattle.ty.specs.declared.Leaf.the-variants.{Kind as Bottom, Struct as Blocked}
 use Rattle.ty.specs.declared.Head.the-variants.{Scalar, Vector, Matrix, Array, Struct}
-use Rattle.ty.proofs.Places.{at-of}
 use Rattle.ty.proofs.Heads.{scalar-is, vector-is, matrix-is, array-is, struct-is}
 
 -- ---- by the front of a type
@@ -57,13 +54,3 @@ leaf-last (Ta n t) {k} h =
     let a : List ℕ = 84 ∷ 97 ∷ n % 256 ∷ n / 256 % 256 ∷ [] in
     record { front = a ++ x .front; bytes = ap (λ (l : List ℕ). a ++ l) (x .bytes); other = λ i. ap (λ (l : List ℕ). a ++ l) (x .other i) }
 leaf-last (Tu i m) {k} h = absurd (let z : _≡_ {A = ℕ} 0 1 = cc in omega arith)
-
--- the same where the record stands
-pub leaf-byte : {d : ℕ} {s : List ℕ} {at : ℕ} {t : Ty} {e : ℕ} {k : Kind} → Stands d s at t e → leaf t ≡ some k → (at < e) × (getD s (e - 1) 0 ≡ kindNo k)
-leaf-byte {s = s} {at} {t} {e} {k} w h =
-    let x = leaf-last t h in
-    let n : ℕ = length (x .front) in
-    let l : length (tyBytes t) ≡ n + 1 = ap length (x .bytes) ∙ length-append (x .front) (kindNo k ∷ []) in
-    let p : drop at s ≡ x .front ++ (kindNo k ∷ drop e s) = w .here ∙ (ap (λ (b : List ℕ). b ++ drop e s) (x .bytes) ∙ append-assoc (x .front) (kindNo k ∷ []) (drop e s)) in
-    let i : e - 1 ≡ at + (n + 0) = omega (arith, w .size) in
-    (omega (arith, w .size), (rw i (at-of s _ at p (n + 0))) ∙ getD-append-add (x .front) (kindNo k ∷ drop e s) 0 0)

@@ -9,8 +9,9 @@ use lib.Dec.{ltb}
 use borrow.Author.Tests.{lt-ltb, le-ltb, ltb-true, ltb-false}
 use Rattle.meaning.specs.Kinds.{Kind, kindNo}
 use Rattle.meaning.specs.Trees.{Ty, Ts, Tv, Tm, Tys, valLen, valLens, litLen}
+use Rattle.record.specs.Literals.{Sized, mostLit}
 use Rattle.ty.specs.Stands.{Stands, StandAll, Standing}
-use Rattle.ty.specs.Heads.{headOf, Sized, mostLit, pickLen, lenOf, Measured}
+use Rattle.ty.specs.Heads.{headOf, pickLen, lenOf, Measured}
 use Rattle.ty.specs.declared.Len.{Len}
 use Rattle.ty.specs.declared.Len.the-variants.{Is, TooLong}
 use Rattle.ty.specs.declared.Head.the-variants.{Scalar, Vector, Matrix, Array, Struct}

@@ -2,7 +2,7 @@
 pub mod Numbers
 pub mod Places
 pub mod Heads
-pub mod Fronts
+pub mod TypeFronts
 pub mod Walks
 pub mod Lens
 pub mod Targets

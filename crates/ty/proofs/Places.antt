@@ -1,26 +1,18 @@
--- A type's record that stands at a place.
+-- What stands at a place is one type, and ends in one place.
+use lib.Dec.{T}
 use mathlib.Core.Path.{_≡_, sym, ap, _∙_}
 use mathlib.Core.Option.{Option, none, some}
 use mathlib.Core.List.{List, _++_}
-use Prim.Native.Nat.{ℕ, suc, _+_}
+use Prim.Native.Nat.{ℕ, suc, _+_, _≤_}
 use native.Mathlib.Omega.{arith}
-use lib.ListN.{length, getD, drop}
-use lib.Seq.{drop-drop, drop-append-seam, getD-drop}
+use lib.ListN.{length, drop}
 use Rattle.meaning.specs.Trees.{Ty, depth}
-use Rattle.meaning.specs.Records.{tyBytes}
+use Rattle.meaning.specs.Records.{tyBytes, shapedTy}
 use Rattle.meaning.specs.Read.{pTy}
 use Rattle.laws.proofs.Back.{ty-back}
+use Rattle.record.specs.Bytes.{Put}
+use Rattle.record.proofs.Puts.{put-length, put-starts}
 use Rattle.ty.specs.Stands.{Stands}
-
--- ---- bytes at a place
-
-pub at-of : (s b : List ℕ) (at : ℕ) → drop at s ≡ b → (j : ℕ) → getD s (at + j) 0 ≡ getD b j 0
-at-of s b at h j = sym (getD-drop at s j 0) ∙ ap (λ (l : List ℕ). getD l j 0) h
-
-pub past : (s a b : List ℕ) (i : ℕ) → drop i s ≡ a ++ b → drop (i + length a) s ≡ b
-past s a b i h = sym (drop-drop (length a) i s) ∙ ap (drop (length a)) h ∙ drop-append-seam a b
-
--- ---- what stands there is one type, and ends in one place
 
 module _ {d d′ : ℕ} {s : List ℕ} {at : ℕ} {t t′ : Ty} {e e′ : ℕ} where
   pub same-type : Stands d s at t e → Stands d′ s at t′ e′ → t ≡ t′
@@ -32,3 +24,15 @@ module _ {d d′ : ℕ} {s : List ℕ} {at : ℕ} {t t′ : Ty} {e e′ : ℕ} w
 
   pub same-end : Stands d s at t e → Stands d′ s at t′ e′ → e ≡ e′
   same-end w w′ = omega (arith, w .size, w′ .size, ap (λ (x : Ty). length (tyBytes x)) (same-type w w′))
+
+-- a type's record that was stored stands there
+pub put-stands : {d : ℕ} {out out′ : List ℕ} {o q : ℕ} (t : Ty) → T (shapedTy t) → depth t ≤ d → Put out o (tyBytes t) q out′ → q ≤ length out → Stands d out′ o t q
+put-stands {out′ = out′} t g h w r =
+    let x = put-starts w (omega (arith, w .end)) in
+    record {
+      here = x .here ∙ ap (λ (n : ℕ). tyBytes t ++ drop n out′) (sym (w .end));
+      size = w .end;
+      within = omega (arith, put-length w);
+      shaped = g;
+      deep = h;
+    }

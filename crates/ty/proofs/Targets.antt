@@ -3,7 +3,7 @@ use mathlib.Core.Path.{_≡_, refl, sym, ap, _∙_, subst}
 use mathlib.Core.Option.{Option, none, some}
 use mathlib.Core.List.{List, [], append-nil}
 use mathlib.Core.Bool.{_&&_}
-use Prim.Native.Nat.{ℕ, _+_, _-_, _≤_}
+use Prim.Native.Nat.{ℕ, _+_, _≤_}
 use native.Mathlib.Omega.{arith}
 use lib.Dec.{T, leb, leb→le, le→leb}
 use lib.ListN.{length, getD, drop, length-drop}
@@ -18,7 +18,7 @@ use Rattle.laws.proofs.Sound.{Bytes}
 use Rattle.laws.proofs.Exact.{target-exact}
 use Rattle.ty.specs.Stands.{Stands}
 use Rattle.ty.specs.Targets.{ArrayShape, VectorShape, MatrixShape, RuntimeTarget, TypeTarget, targetOf}
-use Rattle.ty.proofs.Fronts.{view2, view3, view4}
+use Rattle.record.proofs.Places.{view2, view3, view4}
 use Rattle.ty.specs.declared.Target.{Target}
 use Rattle.ty.specs.declared.Target.the-variants.{«Type», Runtime, Array, Vector, Matrix, Bad}
 

@@ -9,11 +9,12 @@ use lib.ListN.{length, drop, length-append}
 use Rattle.meaning.specs.Trees.{Ty, Tys, [·], _▸_, tysList, depths}
 use Rattle.meaning.specs.Records.{tyBytes, tysBytes, shapedTy, shapedTys}
 use Rattle.laws.proofs.Same.{both}
+use Rattle.record.proofs.Starts.{decides-as, decides-test}
 use Rattle.ty.specs.Stands.{Stands, StandAll, Ends, EndAll}
-use Rattle.ty.specs.Fronts.{Decides, Told, Same}
+use Rattle.ty.specs.TypeFronts.{Told, Same}
 use Rattle.ty.specs.declared.TypeEnd.{TypeEnd}
 use Rattle.ty.specs.declared.TypeEnd.the-variants.{At, Bad}
-use Rattle.ty.proofs.Numbers.{decides-as, decides-test}
+use Rattle.record.specs.Bytes.{Decides}
 use Rattle.ty.proofs.Places.{same-end}
 use Rattle.ty.proofs.Heads.{first-is}
 

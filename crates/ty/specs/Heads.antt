@@ -3,7 +3,7 @@ use mathlib.Core.Path.{_≡_}
 use mathlib.Core.List.{List}
 use mathlib.Core.Bool.{Bool, true, false}
 use mathlib.Core.Option.{Option, none, some}
-use Prim.Native.Nat.{ℕ, _+_, _≤_, _^_}
+use Prim.Native.Nat.{ℕ, _+_, _^_}
 use lib.Dec.{ltb}
 use lib.ListN.{length}
 use Rattle.meaning.specs.Kinds.{Kind, kindNo}
@@ -29,15 +29,6 @@ abbrev pub HeadAt : ℕ → List ℕ → ℕ → Head → Type 0
 HeadAt d s at r = (t : Ty) (e : ℕ) → Stands d s at t e → r ≡ headOf t
 
 -- ---- lengths of values
-
--- r is the length that len gives for the kind whose number k is, and at most `most` for any number
-pub record Sized (k : ℕ) (len : Kind → ℕ) (most r : ℕ) : Type 0 where
-  pub is : (j : Kind) → k ≡ kindNo j → r ≡ len j
-  pub small : r ≤ most
-
--- no literal's record is longer
-abbrev pub mostLit : ℕ
-mostLit = 11
 
 abbrev pub pickLen : Bool → Len → Len → Len
 pickLen true a b = a

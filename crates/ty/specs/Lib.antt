@@ -1,4 +1,4 @@
 pub mod Stands
-pub mod Fronts
+pub mod TypeFronts
 pub mod Heads
 pub mod Targets

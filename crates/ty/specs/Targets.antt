@@ -1,10 +1,9 @@
--- What is said of a whole target's bytes, and when two byte strings are the same.
-use mathlib.Core.List.{List, [], _∷_}
-use mathlib.Core.Bool.{Bool, true, false, _&&_}
+-- What is said of a whole target's bytes.
+use mathlib.Core.List.{List}
 use mathlib.Core.Option.{Option, none, some}
 use mathlib.Core.Path.{_≡_}
 use Prim.Native.Nat.{ℕ, _≤_}
-use lib.Dec.{T, eqb}
+use lib.Dec.{T}
 use lib.ListN.{length, getD}
 use Rattle.meaning.specs.Trees as trees
 use Rattle.meaning.specs.Trees.{Of, Tr, Qa, Qv, Qm}
@@ -57,10 +56,3 @@ targetOf (some (Tr t)) = Runtime
 targetOf (some Qa) = Array
 targetOf (some (Qv n)) = Vector n
 targetOf (some (Qm c r)) = Matrix c r
-
--- two byte strings are equal: of one length, byte for byte
-unfoldable pub sameBytes : List ℕ → List ℕ → Bool
-sameBytes [] [] = true
-sameBytes [] (b ∷ t) = false
-sameBytes (a ∷ s) [] = false
-sameBytes (a ∷ s) (b ∷ t) = eqb a b && sameBytes s t

@@ -3,13 +3,46 @@ use kind::Scalar;
 ghost use mathlib.Core.Path.{_≡_};
 ghost use Prim.Native.Nat.{ℕ, _≤_, _+_, _-_, _*_};
 ghost use lib.ListN.{length};
-ghost use Rattle.meaning.specs.Trees.{Tv, Tm, litLen, valLen};
+ghost use Rattle.meaning.specs.Trees.{Tv, Tm, valLen};
 ghost use Rattle.meaning.specs.Records.{side};
 ghost use Rattle.meaning.specs.Read.{readTarget};
+ghost use Rattle.record.specs.Bytes.{Decides};
+ghost use Rattle.record.specs.Literals.{Sized, mostLit};
 ghost use Rattle.ty.specs.Stands.{Ends, EndAll, Standing, StandingAll};
-ghost use Rattle.ty.specs.Fronts.{kindNumber, floatNumber, eightAt, Decides, Told, ScalarAt, VectorAt, MatrixAt, ArrayAt, StructAt, Fronted};
-ghost use Rattle.ty.specs.Heads.{HeadAt, Sized, mostLit, lenOf, Measured, MeasuredAll, LeafAt};
-ghost use Rattle.ty.specs.Targets.{ArrayShape, VectorShape, MatrixShape, RuntimeTarget, TypeTarget, targetOf, sameBytes};
+ghost use Rattle.ty.specs.TypeFronts.{kindNumber, floatNumber, Told, ScalarAt, VectorAt, MatrixAt, ArrayAt, StructAt, Fronted};
+ghost use Rattle.ty.specs.Heads.{HeadAt, lenOf, Measured, MeasuredAll, LeafAt};
+ghost use Rattle.ty.specs.Targets.{ArrayShape, VectorShape, MatrixShape, RuntimeTarget, TypeTarget, targetOf};
+
+// The limits of document 01 on types and arguments, each with its words. They are written once, here.
+pub struct Limit;
+
+impl Limit {
+    // "Depth 15 passes, 16 is malformed."
+    pub const DEPTH: u8 = 15;
+
+    // The depth of what is in a type of that depth: of a member, of the element of an array and of `Tr`; for `Qa` "each argument's type has depth at most 14".
+    pub const PART_DEPTH: u8 = 14;
+
+    // "Length is at most 4,096 bytes."
+    pub const TYPE_BYTES: usize = 4096;
+
+    // `Tr`: "at most 4,094 bytes, since building makes a `Ta` of it".
+    pub const RUNTIME_BYTES: usize = 4094;
+
+    // For `Qa` each argument's type has "at most 4,092 bytes".
+    pub const ELEMENT_BYTES: usize = 4092;
+
+    // A struct has 1 to 1,023 members.
+    pub const MEMBERS: u16 = 1023;
+
+    // "At most 65,535" arguments.
+    pub const ARGUMENTS: usize = 65535;
+
+    // The greatest length of a value's record that 64 bits hold, and what it leaves for an array's elements behind 4 bytes of mark and count.
+    const LENGTH: usize = 0xffff_ffff_ffff_ffff;
+
+    const ELEMENTS: usize = 0xffff_ffff_ffff_fffb;
+}
 
 // Where a type's record ends.
 pub enum TypeEnd {
@@ -82,51 +115,11 @@ pub fn is_side(n: u8) -> bool
     n <= 4
 }
 
-// The number whose low byte is lo and whose high byte is hi.
-pub fn join(lo: u8, hi: u8) -> u16
-    ensures { λ r. ⌜ r ≡ lo + 256 * hi ⌝ }
-{
-    (lo as u16) + 256 * (hi as u16)
-}
-
-// The same of two numbers of two bytes, and of two numbers of four.
-fn join_two(lo: u16, hi: u16) -> u32
-    ensures { λ r. ⌜ r ≡ lo + 65536 * hi ⌝ }
-{
-    (lo as u32) + 65536 * (hi as u32)
-}
-
-fn join_four(lo: u32, hi: u32) -> u64
-    ensures { λ r. ⌜ r ≡ lo + 4294967296 * hi ⌝ }
-{
-    (lo as u64) + 4294967296 * (hi as u64)
-}
-
-// The number that the eight bytes from `at` on are, the low byte first. Without a loop, so that the compiler makes one load of it.
-pub fn eight(s: &[u8], at: usize) -> u64
-    requires { ⌜ at + 8 ≤ length (now s) ⌝ }
-    ensures { λ r. ⌜ r ≡ eightAt (now (s .entry)) at ⌝ }
-{
-    let a = join_two(join(s[at], s[at + 1]), join(s[at + 2], s[at + 3]));
-    let b = join_two(join(s[at + 4], s[at + 5]), join(s[at + 6], s[at + 7]));
-    join_four(a, b)
-}
-
-// How many bytes s has from `at` on.
-pub fn room(s: &[u8], at: usize) -> usize
-    ensures { λ r. ⌜ r ≡ length (now (s .entry)) - at ⌝ }
-{
-    if s.len() < at {
-        return 0;
-    }
-    s.len() - at
-}
-
 // Whether `Ts` and a kind stand at `at`.
 fn is_scalar(s: &[u8], at: usize) -> bool
     ensures { λ r. ⌜ Decides (ScalarAt (now (s .entry)) at) r ⌝ }
 {
-    if room(s, at) < 3 {
+    if record::room(s, at) < 3 {
         return false;
     }
     if s[at] != b'T' {
@@ -145,7 +138,7 @@ fn is_vector(s: &[u8], at: usize, depth: u8) -> bool
     if depth < 1 {
         return false;
     }
-    if room(s, at) < 6 {
+    if record::room(s, at) < 6 {
         return false;
     }
     if s[at] != b'T' {
@@ -167,7 +160,7 @@ fn is_matrix(s: &[u8], at: usize, depth: u8) -> bool
     if depth < 2 {
         return false;
     }
-    if room(s, at) < 7 {
+    if record::room(s, at) < 7 {
         return false;
     }
     if s[at] != b'T' {
@@ -195,7 +188,7 @@ fn is_array(s: &[u8], at: usize, depth: u8) -> bool
     if depth < 1 {
         return false;
     }
-    if room(s, at) < 4 {
+    if record::room(s, at) < 4 {
         return false;
     }
     if s[at] != b'T' {
@@ -204,7 +197,7 @@ fn is_array(s: &[u8], at: usize, depth: u8) -> bool
     if s[at + 1] != b'a' {
         return false;
     }
-    if join(s[at + 2], s[at + 3]) < 1 {
+    if record::join(s[at + 2], s[at + 3]) < 1 {
         return false;
     }
     true
@@ -217,7 +210,7 @@ fn is_struct(s: &[u8], at: usize, depth: u8) -> bool
     if depth < 1 {
         return false;
     }
-    if room(s, at) < 6 {
+    if record::room(s, at) < 6 {
         return false;
     }
     if s[at] != b'T' {
@@ -226,11 +219,11 @@ fn is_struct(s: &[u8], at: usize, depth: u8) -> bool
     if s[at + 1] != b'u' {
         return false;
     }
-    let n = join(s[at + 4], s[at + 5]);
+    let n = record::join(s[at + 4], s[at + 5]);
     if n < 1 {
         return false;
     }
-    if n > 1023 {
+    if n > Limit::MEMBERS {
         return false;
     }
     true
@@ -253,7 +246,7 @@ fn front_at(s: &[u8], at: usize, depth: u8) -> Front
         return Front::Array;
     }
     if is_struct(s, at, depth) {
-        return Front::Struct(join(s[at + 4], s[at + 5]));
+        return Front::Struct(record::join(s[at + 4], s[at + 5]));
     }
     Front::Neither
 }
@@ -369,14 +362,14 @@ fn is_matrix_shape(s: &[u8]) -> bool
     true
 }
 
-// Whether s is `Tr` and an element type: "at most 4,094 bytes, since building makes a `Ta` of it", which is one level deeper too.
+// Whether s is `Tr` and an element type. Building makes a `Ta` of it, which is longer and one level deeper.
 fn is_runtime(s: &[u8]) -> bool
     ensures { λ r. ⌜ Decides (RuntimeTarget (now (s .entry))) r ⌝ }
 {
     if s.len() < 2 {
         return false;
     }
-    if s.len() > 4094 {
+    if s.len() > Limit::RUNTIME_BYTES {
         return false;
     }
     if s[0] != b'T' {
@@ -385,17 +378,17 @@ fn is_runtime(s: &[u8]) -> bool
     if s[1] != b'r' {
         return false;
     }
-    is_whole(s, 2, 14)
+    is_whole(s, 2, Limit::PART_DEPTH)
 }
 
-// Whether s is one type's record: "depth 15 passes, 16 is malformed. Length is at most 4,096 bytes."
+// Whether s is one type's record within the limits.
 pub fn is_type(s: &[u8]) -> bool
     ensures { λ r. ⌜ Decides (TypeTarget (now (s .entry))) r ⌝ }
 {
-    if s.len() > 4096 {
+    if s.len() > Limit::TYPE_BYTES {
         return false;
     }
-    is_whole(s, 0, 15)
+    is_whole(s, 0, Limit::DEPTH)
 }
 
 // What the bytes of a target are: nothing is assumed of them.
@@ -436,41 +429,29 @@ pub fn head_at(ty: &[u8], at: usize, depth: u8) -> Head
         return Head::Matrix(ty[at + 2], ty[at + 3], ty[at + 6]);
     }
     if mark == b'a' {
-        return Head::Array(join(ty[at + 2], ty[at + 3]));
+        return Head::Array(record::join(ty[at + 2], ty[at + 3]));
     }
-    Head::Struct(join(ty[at + 2], ty[at + 3]), join(ty[at + 4], ty[at + 5]))
-}
-
-// The length of a literal's record: a mark, the kind and the payload. Every length goes through this.
-pub fn literal_len(kind: u8) -> usize
-    ensures { λ r. ⌜ Sized kind litLen mostLit r ⌝ }
-{
-    let scalar = Scalar { kind };
-    3 + scalar.width()
-}
-
-// The byte as a count, so that a product of counts is asked about once.
-fn wide(x: u8) -> usize
-    ensures { λ r. ⌜ r ≡ x ⌝ }
-{
-    x as usize
+    Head::Struct(
+        record::join(ty[at + 2], ty[at + 3]),
+        record::join(ty[at + 4], ty[at + 5]),
+    )
 }
 
 // The length of a vector's record.
 pub fn vector_len(n: u8, kind: u8) -> usize
     ensures { λ r. ⌜ Sized kind (λ k. valLen (Tv n k)) (3 + 255 * mostLit) r ⌝ }
 {
-    3 + wide(n) * literal_len(kind)
+    3 + record::wide(n) * record::literal_len(kind)
 }
 
 // The length of a matrix's record: its columns are vectors.
 pub fn matrix_len(c: u8, r: u8, kind: u8) -> usize
     ensures { λ l. ⌜ Sized kind (λ k. valLen (Tm c r k)) (4 + 255 * (3 + 255 * mostLit)) l ⌝ }
 {
-    4 + wide(c) * vector_len(r, kind)
+    4 + record::wide(c) * vector_len(r, kind)
 }
 
-// The length of an array of n elements of that length. The number tested is what 64 bits leave after the 4 bytes before the elements.
+// The length of an array of n elements of that length.
 fn array_len(n: u16, l: Len) -> Len
     requires { ⌜ 1 ≤ n ⌝ }
     ensures { λ r. ⌜ ((e m : ℕ) → l ≡ lenOf e m → r ≡ lenOf e (4 + n * m)) ⌝ }
@@ -478,7 +459,7 @@ fn array_len(n: u16, l: Len) -> Len
     match l {
         Len::Is(e, m) => {
             let k = n as usize;
-            if m > 18446744073709551611 / k {
+            if m > Limit::ELEMENTS / k {
                 return Len::TooLong;
             }
             Len::Is(e, 4 + k * m)
@@ -498,7 +479,7 @@ fn members_len(ty: &[u8], at: usize, n: u16, depth: u8) -> Len
     while 0 < left {
         match walk_len(ty, i, depth) {
             Len::Is(e, m) => {
-                if m > 18446744073709551615 - sum {
+                if m > Limit::LENGTH - sum {
                     return Len::TooLong;
                 }
                 i = e;
@@ -519,7 +500,7 @@ fn walk_len(ty: &[u8], at: usize, depth: u8) -> Len
     ensures { λ r. ⌜ Measured depth (now (ty .entry)) at r ⌝ }
 {
     match head_at(ty, at, depth) {
-        Head::Scalar(k) => Len::Is(at + 3, literal_len(k)),
+        Head::Scalar(k) => Len::Is(at + 3, record::literal_len(k)),
         Head::Vector(n, k) => Len::Is(at + 6, vector_len(n, k)),
         Head::Matrix(c, r, k) => Len::Is(at + 7, matrix_len(c, r, k)),
         Head::Array(n) => array_len(n, walk_len(ty, at + 4, depth - 1)),
@@ -533,7 +514,7 @@ pub fn value_len(ty: &[u8], at: usize, depth: u8) -> Len
     ensures { λ r. ⌜ Measured depth (now (ty .entry)) at r ⌝ }
 {
     if ty[at + 1] == b's' {
-        return Len::Is(at + 3, literal_len(ty[at + 2]));
+        return Len::Is(at + 3, record::literal_len(ty[at + 2]));
     }
     walk_len(ty, at, depth)
 }
@@ -561,21 +542,4 @@ pub fn leaf_at(ty: &[u8], at: usize, depth: u8) -> Leaf
         return Leaf::Kind(ty[at + 2]);
     }
     walk_leaf(ty, at, depth)
-}
-
-// Whether two byte strings are equal. "Two types are equal exactly when their bytes are."
-pub fn same_bytes(a: &[u8], b: &[u8]) -> bool
-    ensures { λ r. ⌜ r ≡ sameBytes (now (a .entry)) (now (b .entry)) ⌝ }
-{
-    if a.len() != b.len() {
-        return false;
-    }
-    let mut i = 0;
-    while i < a.len() {
-        if a[i] != b[i] {
-            return false;
-        }
-        i += 1;
-    }
-    true
 }

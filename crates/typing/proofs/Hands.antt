@@ -1,44 +1,26 @@
 -- The record of an accepted type, handed over.
-use mathlib.Core.Path.{_≡_, refl, sym, ap, _∙_, subst}
-use mathlib.Core.List.{List, [], _∷_, append-nil}
+use mathlib.Core.Path.{_≡_, refl, ap, _∙_, subst}
+use mathlib.Core.List.{List, [], _∷_}
 use Prim.Native.Nat.{ℕ, _+_, _-_, _≤_, _<_}
 use native.Mathlib.Omega.{arith}
-use borrow.Author.Tests.{le-leb, lt-leb}
 use lib.ListN.{length, take, drop, set, length-set}
 use lib.Seq.{take-at}
 use Rattle.meaning.specs.Kinds.{Kind, kindNo}
 use Rattle.meaning.specs.Trees.{Ty, Tv, Tm, Ta}
 use Rattle.meaning.specs.Records.{tyBytes, le}
-use Rattle.meaning.specs.Answers.{ok, no}
+use Rattle.meaning.specs.Answers.{no}
 use Rattle.meaning.specs.Entries.{handTy}
 use Rattle.laws.proofs.Length.{le-len}
 use Rattle.ty.specs.Stands.{Stands}
 use Rattle.ty.proofs.Targets.{whole-bytes}
 use Rattle.conv.specs.Ranked.{Whole}
-use Rattle.conv.specs.Writers.{Put}
-use Rattle.conv.proofs.Bytes.{put-two, put-put}
-use Rattle.call.specs.Told.{Told}
-use Rattle.call.specs.declared.Written.the-variants.{Record}
-use Rattle.call.proofs.Answers.{written}
-use Rattle.typing.specs.Hands.{handed}
-
--- ---- bytes
-
-all-taken : (s : List ℕ) → take (length s - 0) (drop 0 s) ≡ s
-all-taken s = ap (take (length s - 0)) (sym (append-nil s)) ∙ take-at s [] (length s - 0) (omega arith)
-
-module _ (room : ℕ) (s : List ℕ) where
-  pub handed-no : room < length s → handed room s ≡ no 22
-  unfolding handed
-  handed-no h = rw (lt-leb (length s) room h)
-
-  pub handed-yes : length s ≤ room → handed room s ≡ ok s
-  unfolding handed
-  handed-yes h = rw (le-leb (length s) room h)
-
--- the bytes were copied
-pub hand-put : (s : List ℕ) {out out′ : List ℕ} {r : ℕ} → length s ≤ length out → Put out 0 (take (length s - 0) (drop 0 s)) r out′ → Told (handed (length out) s) out (Record r) out′
-hand-put s {out} {out′} {r} h p = written s (handed-yes (length out) s h) h (subst (λ (b : List ℕ). Put out 0 b r out′) (all-taken s) p)
+use Rattle.record.specs.Bytes.{Put}
+use Rattle.record.proofs.Puts.{put-two, put-put}
+use Rattle.error.specs.Told.{Told}
+use Rattle.error.specs.declared.Written.the-variants.{Record}
+use Rattle.error.specs.Hand.{handed}
+use Rattle.error.proofs.BufferAtExit.{written}
+use Rattle.error.proofs.Handed.{handed-no, handed-yes}
 
 pub hand-type : (room : ℕ) (t : Ty) {s : List ℕ} → s ≡ tyBytes t → handTy room t ≡ handed room s
 unfolding handTy handed

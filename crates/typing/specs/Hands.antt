@@ -2,19 +2,14 @@
 use mathlib.Core.Path.{_≡_}
 use mathlib.Core.List.{List}
 use Prim.Native.Nat.{ℕ}
-use lib.Dec.{leb}
 use lib.ListN.{length}
 use Rattle.meaning.specs.Kinds.{Kind, kindNo}
 use Rattle.meaning.specs.Trees.{Ty, Tv, Tm, Ta}
-use Rattle.meaning.specs.Answers.{Result, Answer, ok, need, _>>=_, _>>_}
+use Rattle.meaning.specs.Answers.{Result, _>>=_}
 use Rattle.meaning.specs.Entries.{handTy}
 use Rattle.ty.specs.Stands.{Stands}
-use Rattle.call.specs.Told.{Told}
-use Rattle.call.specs.declared.Written.{Written}
-
--- "22 the accepted record is longer than the lent buffer", of the record's bytes
-unfoldable pub handed : ℕ → List ℕ → Answer
-handed room s = need (leb (length s) room) 22 >> ok s
+use Rattle.error.specs.Told.{Told}
+use Rattle.error.specs.declared.Written.{Written}
 
 -- a type that is named is handed over, and a refusal stays
 abbrev pub Types : Result Ty → List ℕ → Written → List ℕ → Type 0

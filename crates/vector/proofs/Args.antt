@@ -2,7 +2,7 @@
 use mathlib.Core.Path.{_≡_, refl, sym, ap, _∙_}
 use mathlib.Core.List.{List, [], _∷_, _++_}
 use mathlib.Core.Bool.{true, false}
-use Prim.Native.Nat.{ℕ, _+_, _≤_, _<_}
+use Prim.Native.Nat.{ℕ, _+_, _≤_}
 use native.Mathlib.Omega.{arith}
 use lib.Dec.{T}
 use lib.ListN.{length, getD, drop, length-append}
@@ -13,12 +13,14 @@ use Rattle.meaning.specs.Build.{parts}
 use Rattle.laws.proofs.AgreeVec.{length-mapVs}
 use Rattle.laws.proofs.BackVal.{lit-fits}
 use Rattle.laws.proofs.Length.{le-len}
-use Rattle.ty.proofs.Places.{at-of, past}
-use Rattle.conv.specs.Writers.{numberAt, widthOf}
-use Rattle.conv.proofs.Bytes.{number-of, width-of}
-use Rattle.call.specs.Row.{Row}
-use Rattle.call.proofs.Rows.{row-has, row-shaped}
-use Rattle.vector.specs.Parts.{flat, marked}
+use Rattle.record.proofs.Places.{at-of, past}
+use Rattle.record.specs.Bytes.{numberAt}
+use Rattle.record.specs.Literals.{widthOf}
+use Rattle.args.specs.Row.{Row}
+use Rattle.args.proofs.ArgumentRows.{row-has, row-shaped}
+use Rattle.record.proofs.Numbers.{number-of}
+use Rattle.record.proofs.Literals.{width-of}
+use Rattle.vector.specs.VectorParts.{flat, marked}
 
 letter : Val → ℕ
 letter (Vs k p) = ‘s’
@@ -128,9 +130,6 @@ module _ {s : List ℕ} {i : ℕ} {v : Val} {l : List Val} (x : Row s i (v ∷ l
 
   pub arg-front : i + 3 ≤ length s
   arg-front = omega (arith, front-size v, row-has x .bytes .within)
-
-  pub arg-less : {e : ℕ} → e ≡ i + length (valBytes v) → i < e
-  arg-less q = omega (arith, front-size v)
 
   pub arg-parts : i + length (parts v) ≤ length s
   arg-parts = omega (arith, parts-long v, row-has x .bytes .within)

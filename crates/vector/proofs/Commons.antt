@@ -5,7 +5,7 @@ use mathlib.Core.List.{List, [], _∷_, _++_, map}
 use mathlib.Core.Bool.{Bool, true, false, _&&_}
 use Prim.Native.Nat.{ℕ}
 use lib.Dec.{T}
-use lib.ListN.{length, getD}
+use lib.ListN.{length, getD, take}
 use borrow.Author.Tests.{eq-eqb, ne-eqb}
 use Rattle.meaning.specs.Kinds.{Kind, kindNo}
 use Rattle.meaning.specs.Scalars.{some?}
@@ -21,14 +21,18 @@ use Rattle.laws.proofs.AgreeVec.{toScalar, scalar-append, not-to-scalar}
 use Rattle.laws.proofs.Back.{and-l, and-r}
 use Rattle.laws.proofs.Same.{both}
 use Rattle.ty.specs.Stands.{Stands}
-use Rattle.ty.proofs.Places.{at-of}
+use Rattle.record.proofs.Places.{at-of}
 use Rattle.ty.proofs.Heads.{ScalarIs, scalar-by}
-use Rattle.call.proofs.Rows.{each-ok}
-use Rattle.lists.specs.Lists.{allTo, AskedFit}
-use Rattle.lists.proofs.Laws.{common-to}
-use Rattle.vector.specs.Parts.{flat, payTo}
-use Rattle.vector.specs.Asked.{InCommon}
-use Rattle.vector.proofs.Lits.{to-pays, pays-back, is-none, is-some}
+use Rattle.conv.proofs.FrontOfBuffer.{front-whole}
+use Rattle.args.specs.Row.{Row}
+use Rattle.args.proofs.ArgumentRows.{each-ok}
+use Rattle.common_type.specs.CommonTypes.{CommonAt}
+use Rattle.convert_all.specs.Lists.{allTo, AskedFit}
+use Rattle.convert_all.proofs.ConvertedLists.{common-to}
+use Rattle.shape.proofs.Downs.{some-of, none-of}
+use Rattle.vector.specs.VectorParts.{flat, payTo}
+use Rattle.vector.specs.VectorRules.{InCommon}
+use Rattle.vector.proofs.Lits.{to-pays, pays-back}
 
 -- ---- the count (8), and no common type (10)
 
@@ -39,6 +43,11 @@ qv-miscount n m l h e = rw (sym e, ne-eqb m n h)
 pub qv-never : (n m : ℕ) (l : List Val) → m ≡ n → m ≡ length l → common (map typeOf l) ≡ none → qvParts n l ≡ no 10
 unfolding qvParts
 qv-never n m l q e h = rw (sym e, eq-eqb m n q, h)
+
+-- ---- the common type that was found
+
+pub in-common : {n m q : ℕ} {args ty : List ℕ} {l : List Val} → Row args 0 l → (f : CommonAt (common (map typeOf (flattened l))) q ty) → m ≡ length (flattened l) → m ≡ n → InCommon n args (take q ty) l (f .type)
+in-common x f e h = record { row = x; whole = front-whole (f .stands); is = f .is; count = sym e ∙ h }
 
 -- ---- to a scalar's type only literals convert
 
@@ -155,8 +164,8 @@ module _ {n : ℕ} {args ty : List ℕ} {l : List Val} {t : Ty} (x : InCommon n 
     module _ {r : Bool} (f : r ≡ some? (allSome (convVal t) l)) where
       pub qv-unfit : r ≡ false → qvParts n (flattened l) ≡ no 10
       unfolding rest
-      qv-unfit e = by-whole ∙ ap (rest t none) (is-none (allSome (convVal t) l) (sym f ∙ e))
+      qv-unfit e = by-whole ∙ ap (rest t none) (none-of (allSome (convVal t) l) (sym e ∙ f))
 
       pub qv-not-scalar : r ≡ true → qvParts n (flattened l) ≡ no 12
       unfolding rest
-      qv-not-scalar e = by-whole ∙ ap (rest t none) (is-some (allSome (convVal t) l) (sym f ∙ e) .1)
+      qv-not-scalar e = by-whole ∙ ap (rest t none) (some-of (allSome (convVal t) l) (sym e ∙ f) .1)

@@ -17,11 +17,12 @@ use Rattle.meaning.specs.Build.{flattened, vecParts}
 use Rattle.laws.proofs.AgreeVec.{ok-flat}
 use Rattle.conv.specs.Items.{SomeItems, Fits}
 use Rattle.conv.proofs.Values.{scan-items, scan-fits, some-map}
-use Rattle.call.specs.Row.{Row}
-use Rattle.call.proofs.Rows.{each-ok}
-use Rattle.vector.specs.Parts.{flat, payTo}
-use Rattle.vector.specs.Asked.{Goes}
-use Rattle.vector.proofs.Lits.{vec-pays, flat-some, is-none, is-some, row-scan, pays-in}
+use Rattle.args.specs.Row.{Row}
+use Rattle.args.proofs.ArgumentRows.{each-ok}
+use Rattle.shape.proofs.Downs.{some-of, none-of}
+use Rattle.vector.specs.VectorParts.{flat, payTo}
+use Rattle.vector.specs.VectorRules.{Goes}
+use Rattle.vector.proofs.Lits.{vec-pays, flat-some, row-scan, pays-in}
 
 -- ---- "count (8), then conversion (9)"
 
@@ -49,10 +50,10 @@ module _ {s : List ℕ} {l : List Val} (j : Kind) (x : Row s 0 l) (f : T (every 
     fits = scan-fits (row-scan j x f) n z ∙ (some-map (joined valBytes) (allSome (convLits j) l) ∙ flat-some j l f)
 
     pub fits-none : r ≡ false → allSome (payTo j) (flattened l) ≡ none
-    fits-none e = is-none (allSome (payTo j) (flattened l)) (sym fits ∙ e)
+    fits-none e = none-of (allSome (payTo j) (flattened l)) (sym e ∙ fits)
 
     pub fits-goes : r ≡ true → (ps : List ℕ) × Goes j s 0 l ps
-    fits-goes e = let y = is-some (allSome (payTo j) (flattened l)) (sym fits ∙ e) in (y .0, record { row = x; flats = f; goes = y .1 })
+    fits-goes e = let y = some-of (allSome (payTo j) (flattened l)) (sym e ∙ fits) in (y .0, record { row = x; flats = f; goes = y .1 })
 
 pub goes-good : {j : Kind} {s : List ℕ} {i : ℕ} {l : List Val} {ps : List ℕ} → Goes j s i l ps → T (every (goodLit j) ps)
 goes-good {j} {l = l} {ps} g = pays-in j (flattened l) ps (ok-flat l (each-ok l (g .row .each))) (g .goes)

@@ -2,7 +2,7 @@
 pub mod Args
 pub mod Lits
 pub mod Writes
-pub mod Loops
+pub mod PartsLeft
 pub mod Decides
-pub mod Ones
+pub mod OneToVector
 pub mod Commons

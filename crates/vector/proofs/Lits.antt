@@ -22,13 +22,14 @@ use Rattle.laws.proofs.AgreeVec.{converts-lit, conv-no, not-to-scalar, and-true
 use Rattle.laws.proofs.Back.{and-l, and-r}
 use Rattle.laws.proofs.Same.{both}
 use Rattle.laws.proofs.Sound.{on-some, some-inj}
-use Rattle.ty.proofs.Places.{past}
+use Rattle.record.proofs.Places.{past}
 use Rattle.conv.specs.Values.{BytesAt, HasVal, plain, plains}
 use Rattle.conv.proofs.Values.{Scan, lits-scan, list-scan, some-map}
-use Rattle.conv.proofs.Written.{written}
-use Rattle.call.specs.Row.{Row}
-use Rattle.call.proofs.Rows.{row-has, row-bytes, each-shaped}
-use Rattle.vector.specs.Parts.{flat, marked, payTo}
+use Rattle.laws.proofs.Each.{push, some-every, written}
+use Rattle.args.specs.Row.{Row}
+use Rattle.args.proofs.ArgumentRows.{row-has, row-bytes, each-shaped}
+use Rattle.shape.proofs.Downs.{none-of}
+use Rattle.vector.specs.VectorParts.{flat, marked, payTo}
 
 -- ---- a part converts to the scalar of kind k where it is a literal that does
 
@@ -47,10 +48,6 @@ to-pay k (Vv j ps) = conv-not (Ts k) (Vv j ps) (not-to-scalar (typeOf (Vv j ps))
 to-pay k (Vm c r j ps) = conv-not (Ts k) (Vm c r j ps) (not-to-scalar (typeOf (Vm c r j ps)) k refl)
 to-pay k (Va l) = conv-not (Ts k) (Va l) (not-to-scalar (typeOf (Va l)) k refl)
 to-pay k (Vu i l) = conv-not (Ts k) (Vu i l) (not-to-scalar (typeOf (Vu i l)) k refl)
-
--- the first and the others, if there are both
-abbrev push : {B : Type 0} → Option B → Option (List B) → Option (List B)
-push x y = elim x [ none ↦ none | some b ↦ elim y [ none ↦ none | some bs ↦ some (b ∷ bs) ] ]
 
 pub to-pays : (k : Kind) (l : List Val) → allSome (convVal (Ts k)) l ≡ mapSome (map (Vs k)) (allSome (payTo k) l)
 unfolding allSome mapSome
@@ -78,17 +75,6 @@ vec-pays n k l = rw (to-pays k l) (ap (λ (x : Result Val). needCount (eqb (leng
 
 -- ---- all of them, and each
 
-pub all-every : {A B : Type 0} (f : A → Option B) (l : List A) → some? (allSome f l) ≡ every (λ a. some? (f a)) l
-unfolding allSome every some?
-all-every f [] = refl
-all-every {A} {B} f (a ∷ l) = go (f a) (allSome f l) (all-every f l)
-  where
-    go : (x : Option B) (y : Option (List B)) → some? y ≡ every (λ a. some? (f a)) l
-        → some? (push x y) ≡ some? x && every (λ a. some? (f a)) l
-    go none y e = refl
-    go (some b) none e = e
-    go (some b) (some bs) e = e
-
 lits-every : (k j : Kind) (ps : List ℕ) → every (λ v. some? (payTo k v)) (map (Vs j) ps) ≡ every (λ p. some? (conv k j p)) ps
 unfolding every payTo
 lits-every k j [] = refl
@@ -98,7 +84,7 @@ lits-every k j (p ∷ ps) = ap (λ (b : Bool). some? (conv k j p) && b) (lits-ev
 part-every : (k : Kind) (v : Val) → T (flat v) → some? (convLits k v) ≡ every (λ w. some? (payTo k w)) (parts v)
 unfolding convLits parts flat every payTo
 part-every k (Vs j p) h = some-map (Vs k) (conv k j p) ∙ sym (and-true (some? (conv k j p)))
-part-every k (Vv j ps) h = some-map (Vv k) (allSome (conv k j) ps) ∙ (all-every (conv k j) ps ∙ sym (lits-every k j ps))
+part-every k (Vv j ps) h = some-map (Vv k) (allSome (conv k j) ps) ∙ (some-every (conv k j) ps ∙ sym (lits-every k j ps))
 part-every k (Vm c r j ps) h = absurd h
 part-every k (Va l) h = absurd h
 part-every k (Vu i l) h = absurd h
@@ -112,7 +98,7 @@ flat-every k (v ∷ l) h =
 
 -- so the scan of all arguments decides it
 pub flat-some : (k : Kind) (l : List Val) → T (every flat l) → some? (allSome (convLits k) l) ≡ some? (allSome (payTo k) (flattened l))
-flat-some k l h = all-every (convLits k) l ∙ (flat-every k l h ∙ sym (all-every (payTo k) (flattened l)))
+flat-some k l h = some-every (convLits k) l ∙ (flat-every k l h ∙ sym (some-every (payTo k) (flattened l)))
 
 -- anything that is neither never converts
 part-not : (k : Kind) (v : Val) → flat v ≡ false → every (λ w. some? (payTo k w)) (parts v) ≡ false
@@ -133,18 +119,8 @@ flat-not k (v ∷ l) h = every-append (λ w. some? (payTo k w)) (parts v) (flatt
     go true e f q = ap (λ (x : Bool). every (λ w. some? (payTo k w)) (parts v) && x) (q f) ∙ and-false (every (λ w. some? (payTo k w)) (parts v))
     go false e f q = ap (λ (x : Bool). x && every (λ w. some? (payTo k w)) (flattened l)) (part-not k v e)
 
-pub is-none : {A : Type 0} (o : Option A) → some? o ≡ false → o ≡ none
-unfolding some?
-is-none none e = refl
-is-none (some a) e = true-false e
-
-pub is-some : {A : Type 0} (o : Option A) → some? o ≡ true → (a : A) × (o ≡ some a)
-unfolding some?
-is-some none e = true-false (sym e)
-is-some (some a) e = (a, refl)
-
 pub other-none : (k : Kind) (l : List Val) → every flat l ≡ false → allSome (payTo k) (flattened l) ≡ none
-other-none k l h = is-none (allSome (payTo k) (flattened l)) (all-every (payTo k) (flattened l) ∙ flat-not k l h)
+other-none k l h = none-of (allSome (payTo k) (flattened l)) (sym (some-every (payTo k) (flattened l) ∙ flat-not k l h))
 
 -- ---- what is scanned
 

@@ -1,2 +1,2 @@
-pub mod Parts
-pub mod Asked
+pub mod VectorParts
+pub mod VectorRules

@@ -1,18 +1,22 @@
 // Vectors: the source's `vec` (ctor.rs) on records in lent slices. All is decided and measured before a byte is written.
-use call::Written;
+use common_type::Common;
+use error::Refusal;
+use error::Written;
 use kind::Scalar;
-use lists::Common;
 use literal::Converted;
+use literal::Rules;
+use ty::Limit;
 ghost use mathlib.Core.Path.{_≡_};
 ghost use mathlib.Core.List.{[], _∷_};
-ghost use Prim.Native.Nat.{_+_, _*_, _≤_};
+ghost use Prim.Native.Nat.{_+_, _≤_};
 ghost use lib.Dec.{T};
-ghost use lib.ListN.{length, getD, replicate};
-ghost use Rattle.meaning.specs.Records.{‘V’, ‘s’, ‘v’, joined, side};
-ghost use Rattle.conv.specs.Writers.{Put, widthOf, literalOf};
-ghost use Rattle.call.specs.Row.{SomeRow, SomeArg};
-ghost use Rattle.made.specs.Made.{SomeKind, OneArg};
-ghost use Rattle.vector.specs.Asked.{Repeats, Keeps, QvOne, Splats, VecOne, PartCount, IsFlat, FirstLit, FlatCount, AllFlat, SomeRoom, PartsPut, SomeVector, VectorPut, VecParts, SomeCommon, ToCommon, QvParts};
+ghost use lib.ListN.{length, getD};
+ghost use Rattle.meaning.specs.Records.{‘V’, ‘s’, ‘v’, side};
+ghost use Rattle.literal.specs.LiteralAnswers.{SomeStage};
+ghost use Rattle.record.specs.Bytes.{Put};
+ghost use Rattle.args.specs.Row.{SomeRow, SomeArg};
+ghost use Rattle.scalar.specs.Made.{SomeKind, OneArg};
+ghost use Rattle.vector.specs.VectorRules.{Repeats, QvOne, Splats, VecOne, PartCount, IsFlat, FirstLit, FlatCount, AllFlat, SomeRoom, PartsPut, SomeVector, VectorPut, VecParts, SomeCommon, ToCommon, QvParts};
 
 // ---- writing
 
@@ -21,45 +25,21 @@ fn put_front(n: u8, out: &mut [u8]) -> usize
     requires { ⌜ 3 ≤ length (now out) ⌝ }
     ensures { λ r. ⌜ Put (now (out .entry)) 0 (‘V’ ∷ ‘v’ ∷ n ∷ []) r (now (out .exit)) ⌝ }
 {
-    let p = conv::put_mark(out, 0, b'v');
+    let p = record::put_mark(out, 0, b'v');
     out[p] = n;
     p + 1
 }
 
-// n literals of one kind and one payload.
-fn put_copies(n: u8, k: u8, bits: u64, out: &mut [u8], to: usize) -> usize
-    requires { ⌜ to + n * (3 + widthOf k) ≤ length (now out) ⌝ }
-    ensures { λ r. ⌜ Put (now (out .entry)) to (joined (literalOf k) (replicate n bits)) r (now (out .exit)) ⌝ }
-{
-    let mut p = to;
-    let mut left = n;
-    while 0 < left {
-        p = conv::put_literal(out, p, k, bits);
-        left -= 1;
-    }
-    p
-}
-
-// The vector of n such literals, if there is room for it: "22 the accepted record is longer than the lent buffer".
+// The vector of n literals of one kind and one payload, if there is room for it: "22 the accepted record is longer than the lent buffer".
 fn repeated(n: u8, k: u8, bits: u64, out: &mut [u8]) -> Written
     requires { ⌜ SomeKind k ⌝ }
     ensures { λ r. ⌜ Repeats n k bits (now (out .entry)) r (now (out .exit)) ⌝ }
 {
     if ty::vector_len(n, k) > out.len() {
-        return Written::Refused(22);
+        return Written::Refused(Refusal::NO_ROOM);
     }
     let p = put_front(n, out);
-    Written::Record(put_copies(n, k, bits, out, p))
-}
-
-// The one argument as it stands, if there is room for it.
-fn kept(args: &[u8], out: &mut [u8]) -> Written
-    ensures { λ r. ⌜ Keeps (now (args .entry)) (now (out .entry)) r (now (out .exit)) ⌝ }
-{
-    if args.len() > out.len() {
-        return Written::Refused(22);
-    }
-    Written::Record(conv::copy(args, 0, args.len(), out, 0))
+    Written::Record(record::put_literals(n, k, bits, out, p))
 }
 
 // ---- one argument
@@ -73,14 +53,14 @@ pub fn qv_one(n: u8, args: &[u8], out: &mut [u8]) -> Written
     let mark = args[1];
     if mark == b's' {
         let k = args[2];
-        let bits = conv::payload_at(args, 0);
+        let bits = record::payload_at(args, 0);
         return repeated(n, k, bits, out);
     }
     if mark == b'v' {
         if args[2] != n {
-            return Written::Refused(7);
+            return Written::Refused(Refusal::MISMATCH);
         }
-        return kept(args, out);
+        return error::hand(args, out);
     }
     Written::Miscount(n as usize, 1)
 }
@@ -92,51 +72,51 @@ fn splat(n: u8, k: u8, args: &[u8], out: &mut [u8]) -> Written
     requires { ⌜ getD (now args) 1 0 ≡ ‘s’ ⌝ }
     ensures { λ r. ⌜ Splats n k (now (args .entry)) (now (out .entry)) r (now (out .exit)) ⌝ }
 {
-    match literal::convert_literal(k, args[2], conv::payload_at(args, 0)) {
+    match literal::convert_literal(k, args[2], record::payload_at(args, 0)) {
         Converted::To(p) => repeated(n, k, p, out),
-        Converted::Unfit => Written::Refused(9),
+        Converted::Unfit => Written::Refused(Refusal::NO_CONVERSION),
     }
 }
 
 // One vector to a vector type: "needs equal n (7), then the scalar constructor on each component"; an abstract vector type has none (12).
-fn rebuilt(stage: u8, n: u8, k: u8, args: &[u8], out: &mut [u8]) -> Written
-    requires { ⌜ stage ≤ 2 ⌝ }
+fn rebuilt(rules: Rules, n: u8, k: u8, args: &[u8], out: &mut [u8]) -> Written
+    requires { ⌜ SomeStage rules ⌝ }
     requires { ⌜ SomeKind k ⌝ }
     requires { ⌜ OneArg (now args) ⌝ }
     requires { ⌜ getD (now args) 1 0 ≡ ‘v’ ⌝ }
-    ensures { λ r. ⌜ VecOne stage n k (now (args .entry)) (now (out .entry)) r (now (out .exit)) ⌝ }
+    ensures { λ r. ⌜ VecOne rules n k (now (args .entry)) (now (out .entry)) r (now (out .exit)) ⌝ }
 {
     if args[2] != n {
-        return Written::Refused(7);
+        return Written::Refused(Refusal::MISMATCH);
     }
     let kind = Scalar { kind: k };
     if kind.is_abstract() {
-        return Written::Refused(12);
+        return Written::Refused(Refusal::VECTOR_PART);
     }
-    let no = made::all_made(stage, args, 0, args.len(), k);
+    let no = scalar::all_made(rules, args, 0, args.len(), k);
     if no != 0 {
         return Written::Refused(no);
     }
     if ty::vector_len(n, k) > out.len() {
-        return Written::Refused(22);
+        return Written::Refused(Refusal::NO_ROOM);
     }
-    Written::Record(made::write_made(stage, args, 0, args.len(), k, out, 0))
+    Written::Record(scalar::write_made(rules, args, 0, args.len(), k, out, 0))
 }
 
 // One argument to a vector type. Anything but a literal or a vector is one part, and a vector has at least two.
-pub fn vec_one(stage: u8, n: u8, k: u8, args: &[u8], out: &mut [u8]) -> Written
-    requires { ⌜ stage ≤ 2 ⌝ }
+pub fn vec_one(rules: Rules, n: u8, k: u8, args: &[u8], out: &mut [u8]) -> Written
+    requires { ⌜ SomeStage rules ⌝ }
     requires { ⌜ T (side n) ⌝ }
     requires { ⌜ SomeKind k ⌝ }
     requires { ⌜ OneArg (now args) ⌝ }
-    ensures { λ r. ⌜ VecOne stage n k (now (args .entry)) (now (out .entry)) r (now (out .exit)) ⌝ }
+    ensures { λ r. ⌜ VecOne rules n k (now (args .entry)) (now (out .entry)) r (now (out .exit)) ⌝ }
 {
     let mark = args[1];
     if mark == b's' {
         return splat(n, k, args, out);
     }
     if mark == b'v' {
-        return rebuilt(stage, n, k, args, out);
+        return rebuilt(rules, n, k, args, out);
     }
     Written::Miscount(n as usize, 1)
 }
@@ -189,7 +169,7 @@ fn flat_count(args: &[u8]) -> usize
     let mut m: usize = 0;
     while i < args.len() {
         m += part_count(args, i);
-        i = call::next_arg(args, i);
+        i = args::next_arg(args, i);
     }
     m
 }
@@ -204,7 +184,7 @@ fn all_flat(args: &[u8]) -> bool
         if !is_flat(args, i) {
             return false;
         }
-        i = call::next_arg(args, i);
+        i = args::next_arg(args, i);
     }
     true
 }
@@ -218,7 +198,7 @@ fn put_parts(k: u8, args: &[u8], out: &mut [u8], to: usize) -> usize
     let mut p = to;
     while i < args.len() {
         let from = first_literal(args, i);
-        let end = call::next_arg(args, i);
+        let end = args::next_arg(args, i);
         p = conv::convert(args, from, end, k, out, p);
         i = end;
     }
@@ -231,7 +211,7 @@ fn write_parts(n: u8, k: u8, args: &[u8], out: &mut [u8]) -> Written
     ensures { λ r. ⌜ VectorPut n k (now (args .entry)) (now (out .entry)) r (now (out .exit)) ⌝ }
 {
     if ty::vector_len(n, k) > out.len() {
-        return Written::Refused(22);
+        return Written::Refused(Refusal::NO_ROOM);
     }
     let p = put_front(n, out);
     Written::Record(put_parts(k, args, out, p))
@@ -250,10 +230,10 @@ pub fn vec_parts(n: u8, k: u8, args: &[u8], out: &mut [u8]) -> Written
         return Written::Miscount(wanted, m);
     }
     if !all_flat(args) {
-        return Written::Refused(9);
+        return Written::Refused(Refusal::NO_CONVERSION);
     }
     if !conv::fits(args, 0, args.len(), k) {
-        return Written::Refused(9);
+        return Written::Refused(Refusal::NO_CONVERSION);
     }
     write_parts(n, k, args, out)
 }
@@ -266,14 +246,14 @@ fn to_common(n: u8, args: &[u8], ty: &[u8], out: &mut [u8]) -> Written
     if ty[1] == b's' {
         let k = ty[2];
         if !conv::fits(args, 0, args.len(), k) {
-            return Written::Refused(10);
+            return Written::Refused(Refusal::NO_COMMON_TYPE);
         }
         return write_parts(n, k, args, out);
     }
-    if !lists::all_fit(args, 0, ty, 0, 15) {
-        return Written::Refused(10);
+    if !convert_all::all_fit(args, 0, ty, 0, Limit::DEPTH) {
+        return Written::Refused(Refusal::NO_COMMON_TYPE);
     }
-    Written::Refused(12)
+    Written::Refused(Refusal::VECTOR_PART)
 }
 
 // Arguments to an untemplated vector: "flattened count (8), common type (10), scalars only (12)".
@@ -287,9 +267,9 @@ pub fn qv_parts(n: u8, args: &[u8], out: &mut [u8]) -> Written
     if count != sides {
         return Written::Miscount(sides, count);
     }
-    let mut ty = [0u8; 4096];
-    match lists::common_type_of(args, true, &mut ty) {
+    let mut ty = [0u8; Limit::TYPE_BYTES];
+    match common_type::common_type_of(args, true, &mut ty) {
         Common::Of(q) => to_common(n, args, &ty[..q], out),
-        Common::Never => Written::Refused(10),
+        Common::Never => Written::Refused(Refusal::NO_COMMON_TYPE),
     }
 }

@@ -1,6 +1,6 @@
 -- The bytes of a zero value by the numbers in its type's record.
 use mathlib.Core.Path.{_≡_, refl, sym, ap, _∙_}
-use mathlib.Core.List.{List, [], _++_, append-assoc}
+use mathlib.Core.List.{[], _++_, append-assoc}
 use Prim.Native.Nat.{ℕ, zero, suc, _+_, _*_}
 use native.Mathlib.Omega.{arith}
 use native.Mathlib.Nat.{suc-mul}
@@ -13,15 +13,12 @@ use Rattle.meaning.specs.Records.{le, litBytes, vecBytes, joined, columns, valB
 use Rattle.laws.proofs.AgreeBuild.{zero-made}
 use Rattle.laws.proofs.Length.{le-len, val-len}
 use Rattle.laws.proofs.SoundVal.{joined-vals}
-use Rattle.conv.specs.Writers.{widthOf, literalOf}
-use Rattle.conv.proofs.Bytes.{literal-bytes}
-use Rattle.zero.specs.Zeros.{times, vectorOf, matrixOf, arrayFront, structFront}
+use Rattle.record.specs.Literals.{literalOf}
+use Rattle.record.proofs.Literals.{literal-bytes, joined-times}
+use Rattle.record.specs.Bytes.{times}
+use Rattle.zero.specs.Zeros.{vectorOf, matrixOf, arrayFront, structFront}
 
 -- ---- lengths
-
-pub literal-long : (k p : ℕ) → length (literalOf k p) ≡ 3 + widthOf k
-unfolding literalOf
-literal-long k p = omega (arith, le-len (widthOf k) p)
 
 pub vector-front-long : (n k : ℕ) → length (vectorOf n k) ≡ 3 + length (times n (literalOf k 0))
 unfolding vectorOf
@@ -48,11 +45,6 @@ zero-long t h = let z = zero-made t h in val-len (zeroOf t) (z .0) ∙ ap valLen
 pub scalar-zero : (k : Kind) → valBytes (zeroOf (Ts k)) ≡ literalOf (kindNo k) 0
 unfolding valBytes zeroOf
 scalar-zero k = sym (literal-bytes k 0)
-
-joined-times : {A : Type 0} (f : A → List ℕ) (n : ℕ) (a : A) → joined f (replicate n a) ≡ times n (f a)
-unfolding joined times
-joined-times f zero a = refl
-joined-times f (suc n) a = ap (λ (l : List ℕ). f a ++ l) (joined-times f n a)
 
 vec-zero : (k : Kind) (n : ℕ) → vecBytes k (replicate n 0) ≡ vectorOf n (kindNo k)
 unfolding vecBytes vectorOf

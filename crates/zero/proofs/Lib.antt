@@ -1,5 +1,4 @@
--- what a loop has left to write; the bytes of zero values; the arms and loops of `write_zero`; answers
-pub mod Left
+-- the bytes of zero values; the arms and loops of `write_zero`; answers
 pub mod Bytes
 pub mod Zeros
-pub mod Answers
+pub mod ZeroAnswers

@@ -1,7 +1,7 @@
 -- The zero value, as it is written: its bytes by the numbers in a type's record, the room they need, and the answers.
 use mathlib.Core.Path.{_≡_}
-use mathlib.Core.List.{List, [], _∷_, _++_}
-use Prim.Native.Nat.{ℕ, zero, suc, _+_, _≤_}
+use mathlib.Core.List.{List, _∷_, _++_}
+use Prim.Native.Nat.{ℕ, _+_, _≤_}
 use lib.ListN.{length}
 use Rattle.meaning.specs.Kinds.{Kind, kindNo}
 use Rattle.meaning.specs.Trees.{Ty, Tv, Tys, valLen, zeroOf, zerosOf}
@@ -9,16 +9,12 @@ use Rattle.meaning.specs.Records.{‘V’, ‘v’, ‘m’, ‘a’, ‘u’, 
 use Rattle.meaning.specs.Answers.{ok}
 use Rattle.ty.specs.Stands.{Stands, StandAll}
 use Rattle.conv.specs.Ranked.{Whole}
-use Rattle.conv.specs.Writers.{Put, literalOf}
-use Rattle.call.specs.Told.{Builds}
-use Rattle.call.specs.declared.Written.{Written}
+use Rattle.record.specs.Bytes.{Put, times, Takes}
+use Rattle.error.specs.Told.{Builds}
+use Rattle.error.specs.declared.Written.{Written}
+use Rattle.record.specs.Literals.{literalOf}
 
 -- ---- bytes
-
--- n copies of b, one after another
-unfoldable pub times : ℕ → List ℕ → List ℕ
-times zero b = []
-times (suc n) b = b ++ times n b
 
 -- "`Vv` n, n `Vs` records of one kind": n zeros, by the kind's number
 unfoldable pub vectorOf : ℕ → ℕ → List ℕ
@@ -35,10 +31,6 @@ arrayFront n = ‘V’ ∷ ‘a’ ∷ le 2 n
 -- "`Vu` identity, member count", before the members
 unfoldable pub structFront : ℕ → ℕ → List ℕ
 structFront i n = ‘V’ ∷ ‘u’ ∷ (le 2 i ++ le 2 n)
-
--- there is room for bs in out, from `to` on
-abbrev pub Takes : List ℕ → ℕ → List ℕ → Type 0
-Takes out to bs = to + length bs ≤ length out
 
 -- ---- "the zero value" of the type whose record stands in ty at `at`; of n such values; of n types in a row
 

@@ -1,14 +1,17 @@
 // "No arguments with a type record: the zero value": measured from the type's record, then written from it.
-use call::Written;
+use error::Refusal;
+use error::Written;
 use kind::Scalar;
 use ty::Head;
 use ty::Len;
+use ty::Limit;
 ghost use lib.Dec.{T};
 ghost use Rattle.meaning.specs.Records.{side};
-ghost use Rattle.ty.specs.Fronts.{kindNumber};
+ghost use Rattle.ty.specs.TypeFronts.{kindNumber};
 ghost use Rattle.conv.specs.Ranked.{OneType};
-ghost use Rattle.conv.specs.Writers.{Put, literalOf};
-ghost use Rattle.zero.specs.Zeros.{times, vectorOf, matrixOf, arrayFront, structFront, Takes, ZeroRoom, Zeroes, ElementsRoom, ZeroesEach, MembersRoom, ZeroesAll, ZeroTold, VectorTold};
+ghost use Rattle.record.specs.Bytes.{Put, times, Takes};
+ghost use Rattle.record.specs.Literals.{literalOf};
+ghost use Rattle.zero.specs.Zeros.{vectorOf, matrixOf, arrayFront, structFront, ZeroRoom, Zeroes, ElementsRoom, ZeroesEach, MembersRoom, ZeroesAll, ZeroTold, VectorTold};
 
 // Where the type's record ends, and where the value's record does.
 pub struct Zeroed {
@@ -24,21 +27,7 @@ fn put_zero(k: u8, out: &mut [u8], to: usize) -> usize
     ensures { λ r. ⌜ Put (now (out .entry)) to (literalOf k 0) r (now (out .exit)) ⌝ }
 {
     let scalar = Scalar { kind: k };
-    conv::put_literal(out, to, k, scalar.zero_bits())
-}
-
-// n of them.
-fn put_zeros(n: u8, k: u8, out: &mut [u8], to: usize) -> usize
-    requires { ⌜ Takes (now out) to (times n (literalOf k 0)) ⌝ }
-    ensures { λ r. ⌜ Put (now (out .entry)) to (times n (literalOf k 0)) r (now (out .exit)) ⌝ }
-{
-    let mut p = to;
-    let mut left = n;
-    while 0 < left {
-        p = put_zero(k, out, p);
-        left -= 1;
-    }
-    p
+    record::put_literal(out, to, k, scalar.zero_bits())
 }
 
 // A vector of n zeros.
@@ -46,9 +35,9 @@ fn put_vector(n: u8, k: u8, out: &mut [u8], to: usize) -> usize
     requires { ⌜ Takes (now out) to (vectorOf n k) ⌝ }
     ensures { λ r. ⌜ Put (now (out .entry)) to (vectorOf n k) r (now (out .exit)) ⌝ }
 {
-    let p = conv::put_mark(out, to, b'v');
-    out[p] = n;
-    put_zeros(n, k, out, p + 1)
+    let scalar = Scalar { kind: k };
+    let p = record::put_three(out, to, b'V', b'v', n);
+    record::put_literals(n, k, scalar.zero_bits(), out, p)
 }
 
 // c columns of r zeros.
@@ -70,10 +59,8 @@ fn put_matrix(c: u8, r: u8, k: u8, out: &mut [u8], to: usize) -> usize
     requires { ⌜ Takes (now out) to (matrixOf c r k) ⌝ }
     ensures { λ e. ⌜ Put (now (out .entry)) to (matrixOf c r k) e (now (out .exit)) ⌝ }
 {
-    let p = conv::put_mark(out, to, b'm');
-    out[p] = c;
-    out[p + 1] = r;
-    put_columns(c, r, k, out, p + 2)
+    let p = record::put_four(out, to, b'V', b'm', c, r);
+    put_columns(c, r, k, out, p)
 }
 
 // ---- what stands before the parts of a value
@@ -83,8 +70,8 @@ fn put_array(n: u16, out: &mut [u8], to: usize) -> usize
     requires { ⌜ Takes (now out) to (arrayFront n) ⌝ }
     ensures { λ r. ⌜ Put (now (out .entry)) to (arrayFront n) r (now (out .exit)) ⌝ }
 {
-    let p = conv::put_mark(out, to, b'a');
-    conv::put_le(out, p, 2, n as u64)
+    let p = record::put_mark(out, to, b'a');
+    record::put_le(out, p, 2, n as u64)
 }
 
 // `Vu` identity, member count.
@@ -92,9 +79,9 @@ fn put_struct(i: u16, n: u16, out: &mut [u8], to: usize) -> usize
     requires { ⌜ Takes (now out) to (structFront i n) ⌝ }
     ensures { λ r. ⌜ Put (now (out .entry)) to (structFront i n) r (now (out .exit)) ⌝ }
 {
-    let p = conv::put_mark(out, to, b'u');
-    let q = conv::put_le(out, p, 2, i as u64);
-    conv::put_le(out, q, 2, n as u64)
+    let p = record::put_mark(out, to, b'u');
+    let q = record::put_le(out, p, 2, i as u64);
+    record::put_le(out, q, 2, n as u64)
 }
 
 // ---- the value of a type by its record
@@ -171,15 +158,15 @@ pub fn zero_value(target: &[u8], out: &mut [u8]) -> Written
     requires { ⌜ OneType (now target) ⌝ }
     ensures { λ r. ⌜ ZeroTold (now (target .entry)) (now (out .entry)) r (now (out .exit)) ⌝ }
 {
-    match ty::value_len(target, 0, 15) {
+    match ty::value_len(target, 0, Limit::DEPTH) {
         Len::Is(_, n) => {
             if n > out.len() {
-                return Written::Refused(22);
+                return Written::Refused(Refusal::NO_ROOM);
             }
-            let w = write_zero(target, 0, 15, out, 0);
+            let w = write_zero(target, 0, Limit::DEPTH, out, 0);
             Written::Record(w.out)
         }
-        Len::TooLong => Written::Refused(22),
+        Len::TooLong => Written::Refused(Refusal::NO_ROOM),
     }
 }
 
@@ -190,7 +177,7 @@ pub fn zero_vector(n: u8, k: u8, out: &mut [u8]) -> Written
     ensures { λ r. ⌜ VectorTold n k (now (out .entry)) r (now (out .exit)) ⌝ }
 {
     if ty::vector_len(n, k) > out.len() {
-        return Written::Refused(22);
+        return Written::Refused(Refusal::NO_ROOM);
     }
     Written::Record(put_vector(n, k, out, 0))
 }

@@ -3,7 +3,7 @@ use mathlib.Core.Path.{sym, _∙_}
 use native.Mathlib.Omega.{arith}
 use borrow.Author.Needs.{needs}
 use borrow.Author.Tests.{not-true, not-false}
-use Rattle.call.proofs.Answers.{builds-as, builds-no, builds-miscount}
+use Rattle.error.proofs.BufferAtExit.{builds-as, builds-no, builds-miscount}
 use Rattle.array.proofs.Arrays.{array-room, array-count, array-elem, array-most, become, array-nine, array-miscount, array-ok}
 use Rattle.array.proofs.array_of.Statement.{statement}
 use Rattle.array.proofs.array_of.Tie as tie
@@ -20,10 +20,7 @@ array-of-spec =
     (λ c. omega (arith, array-room (c .before .before .before .before .before .before .pre .whole)))
     -- shared-slice-read-join-2
     (λ c. omega (arith, array-room (c .before .before .before .before .before .before .before .pre .whole)))
-    -- join-requires
-    (λ c κs. search needs)
-    -- cast-wanted
-    (λ c. search needs)
+    (λ c κs. search needs) (λ c. search needs)
     -- returns-2
     (λ c n t l w r s g.
     let b = become t l (sym (c .before .before .before .before .before .all-convert .ensures l t _ r (array-elem w)) ∙ not-false (c .before .before .before .before .before .all-convert .result) (c .before .before .before .before .if1 .left)) in
@@ -41,7 +38,6 @@ array-of-spec =
       intos = b .intos;
       elements = record { given = record { row = p .row; is = p .given; least = p .least; most = omega (arith, k, p .given, array-most w) }; stands = array-elem w; goes = b .goes };
     })
-    -- same-length
     (λ c. search needs)
     -- returns-3
     (λ c n t l w r s g.

@@ -14,9 +14,6 @@ member-count-spec =
     (λ c. omega (arith, struct-room (c .before .before .pre .whole)))
     -- shared-slice-read-join-2
     (λ c. omega (arith, struct-room (c .before .before .before .pre .whole)))
-    -- join-requires
-    (λ c κs. search needs)
-    -- cast-result
-    (λ c. search needs)
+    (λ c κs. search needs) (λ c. search needs)
     -- returns
     (λ c i m w. c .join .ensures ∙ struct-count w))

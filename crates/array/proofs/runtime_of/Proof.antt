@@ -2,7 +2,7 @@
 use mathlib.Core.Path.{sym, _∙_}
 use borrow.Author.Needs.{needs}
 use borrow.Author.Tests.{not-true, not-false}
-use Rattle.call.proofs.Answers.{builds-as, builds-no}
+use Rattle.error.proofs.BufferAtExit.{builds-as, builds-no}
 use Rattle.array.proofs.Arrays.{become, runtime-nine, runtime-ok}
 use Rattle.array.proofs.runtime_of.Statement.{statement}
 use Rattle.array.proofs.runtime_of.Tie as tie
@@ -11,18 +11,16 @@ pub runtime-of-spec : {M : Type 1} → statement M
 runtime-of-spec =
     tie.close
     (tie.spec
-    -- all-convert-requires
     (λ c κs. search needs)
     -- returns
-    (λ c t l w r s m g. builds-no _ 9 (runtime-nine t l (sym (c .before .all-convert .ensures l t _ r w) ∙ not-true (c .before .all-convert .result) (c .if1 .taken))))
+    (λ c t l w g. builds-no _ 9 (runtime-nine t l (sym (c .before .all-convert .ensures l t _ (g .row) w) ∙ not-true (c .before .all-convert .result) (c .if1 .taken))))
     -- write-array-requires
     (λ c κs.
     let p = c .before .before .before .before .before .before .pre in
     let b = become _ _ (sym (c .before .before .all-convert .ensures _ _ _ (p .given .row) (p .whole)) ∙ not-false (c .before .before .all-convert .result) (c .before .if1 .left)) in
     record { type = _; end = _; values = _; intos = b .intos; elements = record { given = p .given; stands = p .whole; goes = b .goes } })
-    -- same-length
     (λ c. search needs)
     -- returns-2
-    (λ c t l w r s m g.
-    let b = become t l (sym (c .before .before .before .before .before .all-convert .ensures l t _ r w) ∙ not-false (c .before .before .before .before .before .all-convert .result) (c .before .before .before .before .if1 .left)) in
-    builds-as _ (runtime-ok t l b) (c .before .before .write-array .ensures t _ l (b .intos) record { given = record { row = r; is = g; least = s; most = m }; stands = w; goes = b .goes })))
+    (λ c t l w g.
+    let b = become t l (sym (c .before .before .before .before .before .all-convert .ensures l t _ (g .row) w) ∙ not-false (c .before .before .before .before .before .all-convert .result) (c .before .before .before .before .if1 .left)) in
+    builds-as _ (runtime-ok t l b) (c .before .before .write-array .ensures t _ l (b .intos) record { given = g; stands = w; goes = b .goes })))

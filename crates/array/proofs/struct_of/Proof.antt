@@ -2,7 +2,7 @@
 use mathlib.Core.Path.{sym, _∙_}
 use borrow.Author.Needs.{needs}
 use borrow.Author.Tests.{not-true, not-false}
-use Rattle.call.proofs.Answers.{builds-as, builds-no, builds-miscount}
+use Rattle.error.proofs.BufferAtExit.{builds-as, builds-no, builds-miscount}
 use Rattle.array.proofs.Structs.{struct-pairs, struct-miscount, struct-no, struct-yes}
 use Rattle.array.proofs.struct_of.Statement.{statement}
 use Rattle.array.proofs.struct_of.Tie as tie
@@ -11,7 +11,6 @@ pub struct-of-spec : {M : Type 1} → statement M
 struct-of-spec =
     tie.close
     (tie.spec
-    -- member-count-requires
     (λ c κs. search needs)
     -- returns
     (λ c i m l w r g. builds-miscount _ _ _ (struct-miscount i m l (c .before .member-count .ensures i m w) g (c .if1 .taken)))
@@ -32,7 +31,6 @@ struct-of-spec =
     let n = sym (p .given) ∙ (c .before .before .before .if1 .left ∙ c .before .before .before .before .member-count .ensures _ _ w) in
     let y = struct-yes _ _ _ n w r (sym (c .before .before .members-convert .ensures _ _ (struct-pairs w r n)) ∙ not-false (c .before .before .members-convert .result) (c .before .if2 .left)) in
     record { identity = _; types = _; values = _; intos = y .intos; made = y .made })
-    -- same-length
     (λ c. search needs)
     -- returns-3
     (λ c i m l w r g.

@@ -12,10 +12,7 @@ pub takes-spec : {M : Type 1} → statement M
 takes-spec =
     tie.close
     (tie.spec
-    -- enum-known-len
-    (λ c. search needs)
-    -- enum-told
-    (λ c. search needs)
+    (λ c. search needs) (λ c. search needs)
     -- returns
     (λ c e n h. ap (λ (m : ℕ). leb m (c .before .before .before .args .room)) (is-long e n h (c .before .len .given .1)))
     -- returns-2

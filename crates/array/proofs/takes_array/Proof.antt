@@ -12,14 +12,10 @@ pub takes-array-spec : {M : Type 1} → statement M
 takes-array-spec =
     tie.close
     (tie.spec
-    -- enum-known-len
     (λ c. search needs)
     -- returns
-    (λ c e m h. let a = c .before .before .before .before .args in none-left (a .n) m (a .room) (c .before .before .before .before .pre) (c .if1 .taken))
-    -- div-result
-    (λ c. search needs)
-    -- enum-told
-    (λ c. search needs)
+    (λ c e m h. search none-left)
+    (λ c. search needs) (λ c. search needs)
     -- returns-2
     (λ c e m h.
     let a = c .before .before .before .before .args in

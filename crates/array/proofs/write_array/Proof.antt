@@ -11,7 +11,6 @@ pub write-array-spec : {M : Type 1} → statement M
 write-array-spec =
     tie.close
     (tie.spec
-    -- value-len-requires
     (λ c κs. search needs)
     -- takes-array-requires
     (λ c κs. let g = c .before .before .before .before .pre .elements .given in omega (arith, g .is, g .least))
@@ -26,7 +25,7 @@ write-array-spec =
     (λ c κs.
     let x = c .before .before .before .before .before .before .before .before .before .before .before .pre .elements in
     let h = array-fits x (c .before .before .before .before .before .before .before .before .before .before .before .args .out .now) (c .before .before .before .before .before .before .takes-array .ensures _ _ (c .before .before .before .before .before .before .before .value-len .ensures _ _ (x .stands))) (not-false (c .before .before .before .before .before .before .takes-array .result) (c .before .before .before .before .before .if1 .left)) in
-    omega (arith, h, c .before .before .before .put-mark .ensures .end, c .before .before .before .put-mark .kept .0))
+    (tt, omega (arith, h, c .before .before .before .put-mark .ensures .end, c .before .before .before .put-mark .kept .0)))
     -- write-all-requires
     (λ c κs.
     let x = c .before .before .before .before .before .before .before .before .before .before .before .before .before .before .before .pre .elements in
@@ -41,7 +40,6 @@ write-array-spec =
       goes = x .goes;
       room = omega (arith, h, c .before .before .before .before .before .before .before .put-mark .ensures .end, c .before .before .before .put-le .ensures .end, le-len 2 (c .before .before .before .before .before .before .before .before .before .before .before .before .before .before .before .args .count), c .before .before .before .before .before .before .before .put-mark .kept .0, c .before .before .before .put-le .kept .0);
     })
-    -- same-length
     (λ c. search needs)
     -- returns-2
     (λ c t e l ws x.

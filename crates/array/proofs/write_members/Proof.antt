@@ -1,5 +1,5 @@
 -- What writes the rest makes the whole.
-use mathlib.Core.Path.{_≡_, refl, _∙_}
+use mathlib.Core.Path.{_≡_}
 use mathlib.Core.List.{List}
 use mathlib.Core.Option.{some}
 use Prim.Native.Nat.{_-_}
@@ -7,14 +7,14 @@ use native.Mathlib.Omega.{arith}
 use lib.ListN.{length}
 use Rattle.meaning.specs.Trees.{Tys, Val, tysList}
 use Rattle.meaning.specs.Build.{memberwise}
+use Rattle.record.proofs.Left.{left-all, left-same}
 use Rattle.array.specs.Members.{Pairs}
-use Rattle.array.proofs.Loops.{Left, left-arg, left-type, left-less, left-room, left-on, left-end}
+use Rattle.array.proofs.MembersLeft.{PutLeft, put-arg, put-type, put-less, put-room, put-on, put-end}
 use Rattle.array.proofs.write_members.Statement.{statement}
 use Rattle.array.proofs.write_members.Tie as tie
 
 abbrev Inv : tie.InvT-loop
-Inv target args out₀ to from₀ at₀ p₀ out from at p =
-    (length out ≡ length out₀) × ((m : Tys) (l ws : List Val) → Pairs target 6 args 0 m l → memberwise (tysList m) l ≡ some ws → Left target at args from out₀ to ws p out)
+Inv target args out₀ to from₀ at₀ p₀ out from at p = (m : Tys) (l ws : List Val) → Pairs target 6 args 0 m l → memberwise (tysList m) l ≡ some ws → PutLeft target at args from out₀ to ws p out
 
 abbrev μ : tie.MeasureT-loop
 μ target args out₀ to from₀ at₀ p₀ out from at p = length args - from
@@ -24,25 +24,22 @@ write-members-spec =
     tie.close
     (tie.spec Inv μ
     -- loop-holds
-    (λ c. (refl, λ m l ws x g. record { types = m; values = l; intos = ws; pairs = x; goes = g; sums = refl; rest = λ r y z. z }))
+    (λ c m l ws x g. record { types = m; values = l; pairs = x; so = record { intos = ws; goes = g; rest = left-all _ _ _ } })
     -- next-arg-requires
-    (λ c κs. let p = c .before .before .before .before .before .pre in left-arg (c .before .loop .inv .1 _ _ _ (p .pairs) (p .goes)) (c .loop-test .taken))
+    (λ c κs. let p = c .before .before .before .before .before .pre in put-arg (c .before .loop .inv _ _ _ (p .pairs) (p .goes)) (c .loop-test .taken))
     -- write-converted-requires
     (λ c κs.
     let p = c .before .before .before .before .before .before .before .pre in
-    let v = c .before .before .before .loop .inv in
-    left-room (v .1 _ _ _ (p .pairs) (p .goes)) (c .before .before .loop-test .taken) (c .before .next-arg .ensures) (omega (arith, p .room, v .0)))
-    -- member-end-requires
-    (λ c κs. let p = c .before .before .before .before .before .before .before .before .before .before .pre in left-type (c .before .before .before .before .before .before .loop .inv .1 _ _ _ (p .pairs) (p .goes)) (c .before .before .before .before .before .loop-test .taken))
+    put-room (c .before .before .before .loop .inv _ _ _ (p .pairs) (p .goes)) (c .before .before .loop-test .taken) (c .before .next-arg .ensures) (p .room))
+    -- end-of-type-requires
+    (λ c κs. let p = c .before .before .before .before .before .before .before .before .before .before .pre in put-type (c .before .before .before .before .before .before .loop .inv _ _ _ (p .pairs) (p .goes)) (c .before .before .before .before .before .loop-test .taken))
     -- loop-less
     (λ c.
     let p = c .before .before .before .before .before .before .before .before .before .before .before .pre in
-    omega (arith, c .before .before .before .before .before .before .loop-test .taken, left-less (c .before .before .before .before .before .before .before .loop .inv .1 _ _ _ (p .pairs) (p .goes)) (c .before .before .before .before .before .before .loop-test .taken) (c .before .before .before .before .before .next-arg .ensures)))
+    omega (arith, put-less (c .before .before .before .before .before .before .before .loop .inv _ _ _ (p .pairs) (p .goes)) (c .before .before .before .before .before .before .loop-test .taken) (c .before .before .before .before .before .next-arg .ensures)))
     -- loop-again
-    (λ c.
-    let v = c .before .before .before .before .before .before .before .loop .inv in
-    (c .before .before .before .write-converted .kept .1 .1 .1 .1 .1 .1 .0 ∙ v .0, λ m l ws x g. left-on (v .1 m l ws x g) (c .before .before .before .before .before .before .loop-test .taken) (c .before .before .before .before .before .next-arg .ensures) (c .before .before .before .write-converted .ensures) (c .member-end .ensures)))
+    (λ c m l ws x g. search (put-on (c .before .before .before .before .before .before .before .loop .inv m l ws x g)))
     -- same-length
-    (λ c. c .before .loop .inv .0)
+    (λ c. let p = c .before .before .before .before .before .pre in left-same (c .before .loop .inv _ _ _ (p .pairs) (p .goes) .so .rest))
     -- returns
-    (λ c m l ws x g. left-end (c .before .loop .inv .1 m l ws x g) (c .loop-test .left)))
+    (λ c m l ws x g. put-end (c .before .loop .inv m l ws x g) (c .loop-test .left)))

@@ -11,8 +11,7 @@ write-struct-spec =
     tie.close
     (tie.spec
     -- value-len-requires
-    (λ c κs. struct-stands (c .before .before .before .pre .made .struct .whole))
-    -- takes-requires
+    (λ c κs. search struct-stands)
     (λ c κs. search needs)
     -- returns
     (λ c i m l ws x. made-no x (c .before .before .before .before .before .before .args .out .now) (c .before .takes .ensures _ _ (c .before .before .value-len .ensures _ _ (x .struct .whole))) (not-true (c .before .takes .result) (c .if1 .taken)))
@@ -37,7 +36,6 @@ write-struct-spec =
       goes = x .goes;
       room = omega (arith, h, c .before .before .before .before .before .before .before .put-mark .ensures .end, c .before .before .before .copy .ensures .end, struct-front-long (x .struct .whole), c .before .before .before .before .before .before .before .put-mark .kept .0, c .before .before .before .copy .kept .1 .1 .1 .0);
     })
-    -- same-length
     (λ c. search needs)
     -- returns-2
     (λ c i m l ws x.

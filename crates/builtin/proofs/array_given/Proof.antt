@@ -4,7 +4,7 @@ use native.Mathlib.Omega.{arith}
 use borrow.Author.Needs.{needs}
 use Rattle.meaning.specs.Trees.{Qa}
 use Rattle.meaning.specs.Build.{build}
-use Rattle.call.proofs.Answers.{builds-no, builds-as}
+use Rattle.error.proofs.BufferAtExit.{builds-no, builds-as}
 use Rattle.builtin.proofs.Counts.{builds-none, qa-build, array-given}
 use Rattle.builtin.proofs.array_given.Statement.{statement}
 use Rattle.builtin.proofs.array_given.Tie as tie
@@ -18,9 +18,8 @@ array-given-spec =
     (λ c s l g. builds-none (build s Qa) l g (c .if1 .taken) (builds-no _ 11 refl))
     -- qa-of-requires
     (λ c κs. let p = c .before .before .before .before .pre in record { values = p .values; given = array-given (p .given) (omega (arith, c .before .if1 .left)) })
-    -- same-length
     (λ c. search needs)
     -- returns-2
     (λ c s l g.
     let a = array-given g (omega (arith, c .before .before .before .before .if1 .left)) in
-    builds-as _ (qa-build s l (a .least)) (c .before .before .qa-of .ensures l (a .row) (a .least) (a .most) (a .is))))
+    builds-as _ (qa-build s l (a .least)) (c .before .before .qa-of .ensures l a)))

@@ -13,14 +13,12 @@ mat-ctor-spec =
     tie.close
     (tie.spec
     -- mat-one-requires
-    (λ c κs. let p = c .before .before .before .before .pre in ((p .1, p .2, p .3, p .0), one-given (p .5) (c .before .if1 .taken)))
-    -- same-length
+    (λ c κs. search one-given)
     (λ c. search needs)
     -- returns
     (λ c s j e q l g. builds-one (build s (Of (Tm _ _ j))) l g (c .before .before .before .before .if1 .taken) (λ v w. c .before .before .mat-one .ensures s j v e q w))
     -- mat-parts-requires
-    (λ c κs. let p = c .before .before .before .before .pre in ((p .1, p .2, p .3), more-given _ (p .5 .given) (p .4)))
-    -- same-length-2
+    (λ c κs. search more-given)
     (λ c. search needs)
     -- returns-2
     (λ c s j e q l g. builds-more (build s (Of (Tm _ _ j))) l g (omega (arith, c .before .before .before .before .before .before .before .pre .4, c .before .before .before .before .if1 .left)) (λ v u m x. c .before .before .mat-parts .ensures j v _ q (x .row) (x .count))))

@@ -4,7 +4,7 @@ use native.Mathlib.Omega.{arith}
 use borrow.Author.Needs.{needs}
 use Rattle.meaning.specs.Trees.{Tr}
 use Rattle.meaning.specs.Build.{build}
-use Rattle.call.proofs.Answers.{builds-no, builds-as}
+use Rattle.error.proofs.BufferAtExit.{builds-no, builds-as}
 use Rattle.builtin.proofs.Counts.{builds-none, runtime-build, array-given}
 use Rattle.builtin.proofs.runtime_given.Statement.{statement}
 use Rattle.builtin.proofs.runtime_given.Tie as tie
@@ -18,9 +18,8 @@ runtime-given-spec =
     (λ c s t w l g. builds-none (build s (Tr t)) l g (c .if1 .taken) (builds-no _ 4 refl))
     -- runtime-of-requires
     (λ c κs. let p = c .before .before .before .before .before .pre in record { type = p .0 .type; values = p .1 .values; whole = p .0 .whole; given = array-given (p .1 .given) (omega (arith, c .before .if1 .left)) })
-    -- same-length
     (λ c. search needs)
     -- returns-2
     (λ c s t w l g.
     let a = array-given g (omega (arith, c .before .before .before .before .if1 .left)) in
-    builds-as _ (runtime-build s t l (a .least)) (c .before .before .runtime-of .ensures t l w (a .row) (a .least) (a .most) (a .is))))
+    builds-as _ (runtime-build s t l (a .least)) (c .before .before .runtime-of .ensures t l w a)))

@@ -4,8 +4,8 @@ use native.Mathlib.Omega.{arith}
 use borrow.Author.Needs.{needs}
 use Rattle.meaning.specs.Trees.{Of, Ts}
 use Rattle.meaning.specs.Build.{build}
-use Rattle.made.proofs.Ones.{abstract-is}
-use Rattle.call.proofs.Answers.{builds-no}
+use Rattle.scalar.proofs.OneLiteral.{abstract-is}
+use Rattle.error.proofs.BufferAtExit.{builds-no}
 use Rattle.builtin.proofs.Counts.{builds-one, builds-more, one-given, more-abstract, more-concrete}
 use Rattle.builtin.proofs.scalar_ctor.Statement.{statement}
 use Rattle.builtin.proofs.scalar_ctor.Tie as tie
@@ -16,12 +16,10 @@ scalar-ctor-spec =
     tie.close
     (tie.spec
     -- scalar-requires
-    (λ c κs. let p = c .before .before .before .before .pre in (p .1, one-given (p .3) (c .before .if1 .taken)))
-    -- same-length
+    (λ c κs. search one-given)
     (λ c. search needs)
     -- returns
     (λ c s j e q l g. builds-one (build s (Of (Ts j))) l g (c .before .before .before .before .if1 .taken) (λ v w. c .before .before .scalar .ensures s j v e q w))
-    -- is-abstract-requires
     (λ c κs. search needs)
     -- returns-2
     (λ c s j e q l g. builds-more (build s (Of (Ts j))) l g (omega (arith, c .before .before .before .before .before .pre .2, c .before .before .if1 .left)) (λ v u m x. builds-no _ 4 (more-abstract j (sym (abstract-is j q (c .before .is-abstract .ensures)) ∙ c .if2 .taken) v _)))

@@ -13,26 +13,12 @@ unfolding paper typeTarget
 conversion-rank-spec =
     tie.close
     (tie.spec
-    -- read-target-requires
-    (λ c κs. search needs)
-    -- enum-told
-    (λ c. search needs)
+    (λ c κs. search needs) (λ c. search needs)
     -- rank-to-requires
     (λ c κs.
     let m = meant (c .before .before .before .before .before .args .target .now) (λ i. c .before .before .before .before .shared-slice-known .given i .fits) (sym (c .enum-told .given .1) ∙ c .before .before .read-target .ensures) in
     record { type = m .type; stands = m .stands })
-    -- enum-told-2
-    (λ c. search needs)
-    -- rank-to-runtime-requires
-    (λ c κs. search needs)
-    -- enum-told-3
-    (λ c. search needs)
-    -- enum-told-4
-    (λ c. search needs)
-    -- enum-told-5
-    (λ c. search needs)
-    -- enum-told-6
-    (λ c. search needs)
+    (λ c. search needs) (λ c κs. search needs) (λ c. search needs) (λ c. search needs) (λ c. search needs) (λ c. search needs)
     -- returns
     (λ c.
     let m = meant (c .before .before .before .before .before .before .args .target .now) (λ i. c .before .before .before .before .before .shared-slice-known .given i .fits) (sym (c .before .enum-told .given .1) ∙ c .before .before .before .read-target .ensures) in

@@ -6,14 +6,14 @@ use Prim.Native.Nat.{_-_}
 use native.Mathlib.Omega.{arith}
 use lib.ListN.{length}
 use Rattle.meaning.specs.Kinds.{Kind, kindNo}
-use Rattle.conv.specs.Items.{Item, ItemsAt, convItems}
-use Rattle.conv.proofs.Loops.{Left, left-all, left-item, left-less, left-room, left-on, left-end}
+use Rattle.conv.specs.Items.{Item, ItemsAt, convItem, convItems}
+use Rattle.conv.proofs.Walk.{next-item, next-less, Writing, write-all, write-room, write-on, write-end}
 use Rattle.conv.proofs.convert.Statement.{statement}
 use Rattle.conv.proofs.convert.Tie as tie
 
 abbrev Inv : tie.InvT-loop
 Inv src from end k out₀ to i₀ p₀ out i p =
-    (length out ≡ length out₀) × ((j : Kind) (l m : List Item) → k ≡ kindNo j → ItemsAt src from end l → convItems j l ≡ some m → Left j src end out₀ to m i p out)
+    (length out ≡ length out₀) × ((j : Kind) (l m : List Item) → k ≡ kindNo j → ItemsAt src from end l → convItems j l ≡ some m → Writing (convItem j) src end out₀ to m i p out)
 
 abbrev μ : tie.MeasureT-loop
 μ src from end k out₀ to i₀ p₀ out i p = end - i
@@ -23,27 +23,28 @@ convert-spec =
     tie.close
     (tie.spec Inv μ
     -- loop-holds
-    (λ c. let a = c .before .before .args in (refl, λ j l m n w g. left-all j (a .out .now) (a .to) w g))
+    (λ c. let a = c .before .before .args in (refl, λ j l m n w g. write-all (convItem j) (a .out .now) (a .to) w g))
     -- put-item-requires
     (λ c κs.
     let p = c .before .before .before .before .before .pre in
     let v = c .before .before .loop .inv in
-    left-room (v .1 (p .kind) (p .items) (p .intos) (p .no) (p .stands) (p .goes)) (c .before .loop-test .taken) (p .no) (omega (arith, p .room, v .0)))
+    write-room (v .1 (p .kind) (p .items) (p .intos) (p .no) (p .stands) (p .goes)) (c .before .loop-test .taken) (omega (arith, p .room, v .0))
+    λ a b w q t. record { kind = p .kind; no = p .no; item = a; into = b; stands = w; goes = q; room = t })
     -- item-end-requires
-    (λ c κs. let p = c .before .before .before .before .before .before .before .before .pre in left-item (c .before .before .before .before .before .loop .inv .1 (p .kind) (p .items) (p .intos) (p .no) (p .stands) (p .goes)) (c .before .before .before .before .loop-test .taken))
+    (λ c κs. let p = c .before .before .before .before .before .before .before .before .pre in next-item (c .before .before .before .before .before .loop .inv .1 (p .kind) (p .items) (p .intos) (p .no) (p .stands) (p .goes)) (c .before .before .before .before .loop-test .taken))
     -- loop-less
     (λ c.
     let p = c .before .before .before .before .before .before .before .before .before .pre in
     omega (
       arith,
       c .before .before .before .before .before .loop-test .taken,
-      left-less (c .before .before .before .before .before .before .loop .inv .1 (p .kind) (p .items) (p .intos) (p .no) (p .stands) (p .goes)) (c .before .before .before .before .before .loop-test .taken) (c .item-end .ensures),
+      next-less (c .before .before .before .before .before .before .loop .inv .1 (p .kind) (p .items) (p .intos) (p .no) (p .stands) (p .goes)) (c .before .before .before .before .before .loop-test .taken) (c .item-end .ensures),
     ))
     -- loop-again
     (λ c.
     let v = c .before .before .before .before .before .before .loop .inv in
-    (c .before .before .before .put-item .kept .1 .1 .1 .0 ∙ v .0, λ j l m n w g. left-on (v .1 j l m n w g) (c .before .before .before .before .before .loop-test .taken) n (c .before .before .before .put-item .ensures) (c .item-end .ensures)))
+    (c .before .before .before .put-item .kept .1 .1 .1 .0 ∙ v .0, λ j l m n w g. write-on (v .1 j l m n w g) (c .before .before .before .before .before .loop-test .taken) (c .item-end .ensures) (λ a b u q. c .before .before .before .put-item .ensures j a b n u q)))
     -- same-length
     (λ c. c .before .loop .inv .0)
     -- returns
-    (λ c j l m n w g. left-end (c .before .loop .inv .1 j l m n w g) (c .loop-test .left)))
+    (λ c j l m n w g. write-end (c .before .loop .inv .1 j l m n w g) (c .loop-test .left)))

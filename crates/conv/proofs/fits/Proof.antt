@@ -5,7 +5,8 @@ use Prim.Native.Nat.{_-_}
 use native.Mathlib.Omega.{arith}
 use borrow.Author.Tests.{not-true, not-false}
 use Rattle.conv.specs.Items.{Item, ItemsAt}
-use Rattle.conv.proofs.Loops.{FitLeft, fit-item, fit-less, fit-no, fit-on, fit-end}
+use Rattle.conv.proofs.Walk.{next-item, next-less}
+use Rattle.conv.proofs.ItemsLeft.{FitLeft, fit-no, fit-on, fit-end}
 use Rattle.conv.proofs.fits.Statement.{statement}
 use Rattle.conv.proofs.fits.Tie as tie
 
@@ -20,18 +21,18 @@ fits-spec =
     tie.close
     (tie.spec Inv μ
     -- loop-holds
-    (λ c l w. record { items = l; stands = w; same = λ j n. refl })
+    (λ c l w. record { items = l; row = w; so = λ j n. refl })
     -- item-fits-requires
-    (λ c κs. let p = c .before .before .before .pre in fit-item (c .before .loop .inv (p .items) (p .stands)) (c .loop-test .taken))
+    (λ c κs. let p = c .before .before .before .pre in next-item (c .before .loop .inv (p .items) (p .stands)) (c .loop-test .taken))
     -- returns
     (λ c j l n w.
-    fit-no (c .before .before .before .loop .inv l w) (c .before .before .loop-test .taken) (c .before .item-fits .ensures) j n (not-true (c .before .item-fits .result) (c .if1 .taken)))
+    fit-no l (c .before .before .before .loop .inv l w) (c .before .before .loop-test .taken) (c .before .item-fits .ensures) (not-true (c .before .item-fits .result) (c .if1 .taken)) j n)
     -- item-end-requires
-    (λ c κs. let p = c .before .before .before .before .before .pre in fit-item (c .before .before .before .loop .inv (p .items) (p .stands)) (c .before .before .loop-test .taken))
+    (λ c κs. let p = c .before .before .before .before .before .pre in next-item (c .before .before .before .loop .inv (p .items) (p .stands)) (c .before .before .loop-test .taken))
     -- loop-less
-    (λ c. let p = c .before .before .before .before .before .before .pre in omega (arith, c .before .before .before .loop-test .taken, fit-less (c .before .before .before .before .loop .inv (p .items) (p .stands)) (c .before .before .before .loop-test .taken) (c .item-end .ensures)))
+    (λ c. let p = c .before .before .before .before .before .before .pre in omega (arith, c .before .before .before .loop-test .taken, next-less (c .before .before .before .before .loop .inv (p .items) (p .stands)) (c .before .before .before .loop-test .taken) (c .item-end .ensures)))
     -- loop-again
     (λ c l w.
-    fit-on (c .before .before .before .before .loop .inv l w) (c .before .before .before .loop-test .taken) (c .before .before .item-fits .ensures) (not-false (c .before .before .item-fits .result) (c .before .if1 .left)) (c .item-end .ensures))
+    fit-on l (c .before .before .before .before .loop .inv l w) (c .before .before .before .loop-test .taken) (c .before .before .item-fits .ensures) (not-false (c .before .before .item-fits .result) (c .before .if1 .left)) (c .item-end .ensures))
     -- returns-2
-    (λ c j l n w. fit-end (c .before .loop .inv l w) (c .loop-test .left) j n))
+    (λ c j l n w. fit-end l (c .before .loop .inv l w) (c .loop-test .left) j n))

@@ -1,7 +1,7 @@
 -- The mark says what the item is, and so how long.
 use native.Mathlib.Omega.{arith}
 use borrow.Author.Needs.{needs}
-use Rattle.conv.proofs.Steps.{item-front, item-within, literal-end, vector-end, other-end}
+use Rattle.conv.proofs.ItemSteps.{item-front, item-within, literal-end, vector-end, other-end}
 use Rattle.conv.proofs.item_end.Statement.{statement}
 use Rattle.conv.proofs.item_end.Tie as tie
 
@@ -17,7 +17,6 @@ item-end-spec =
     (λ c. omega (arith, item-front (c .before .before .before .pre .stands)))
     -- shared-slice-read-literal-len
     (λ c. omega (arith, item-front (c .before .before .before .before .pre .stands)))
-    -- literal-len-requires
     (λ c κs. search needs)
     -- add-result
     (λ c. let w = c .before .before .before .before .before .pre .stands in omega (arith, item-within w, literal-end w (c .before .before .if1 .taken) (c .literal-len .ensures)))

@@ -1,6 +1,6 @@
 -- A mark stays; a literal fits where it converts.
 use native.Mathlib.Omega.{arith}
-use Rattle.conv.proofs.Steps.{item-front, mark-fits, literal-within, literal-fits}
+use Rattle.conv.proofs.ItemSteps.{item-front, mark-fits, literal-within, literal-fits}
 use Rattle.conv.proofs.item_fits.Statement.{statement}
 use Rattle.conv.proofs.item_fits.Tie as tie
 
@@ -14,7 +14,7 @@ item-fits-spec =
     (λ c. omega (arith, item-front (c .before .before .pre .stands)))
     -- returns
     (λ c j a n w. mark-fits w (c .if1 .taken) j)
-    -- literal-fits-requires
+    -- fits-at-requires
     (λ c κs. literal-within (c .before .before .before .pre .stands) (c .if1 .left))
     -- returns-2
-    (λ c j a n w. literal-fits w (c .before .if1 .left) j n (c .literal-fits .ensures)))
+    (λ c j a n w. literal-fits w (c .before .if1 .left) j n (c .fits-at .ensures)))

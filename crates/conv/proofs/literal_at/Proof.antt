@@ -8,13 +8,6 @@ pub literal-at-spec : {M : Type 1} → statement M
 literal-at-spec =
     tie.close
     (tie.spec
-    -- add-convert-literal
-    (λ c. search needs)
-    -- shared-slice-read-convert-literal
-    (λ c. search needs)
-    -- payload-at-requires
-    (λ c κs. search needs)
-    -- convert-literal-requires
-    (λ c κs. search needs)
+    (λ c. search needs) (λ c. search needs) (λ c κs. search needs) (λ c κs. search needs)
     -- returns
     (λ c. c .convert-literal .ensures ∙ (rw (c .before .payload-at .ensures))))

@@ -9,12 +9,7 @@ pub other-converts-spec : {M : Type 1} → statement M
 other-converts-spec =
     tie.close
     (tie.spec
-    -- type-rank-requires
-    (λ c κs. search needs)
-    -- enum-told
-    (λ c. search needs)
-    -- enum-told-2
-    (λ c. search needs)
+    (λ c κs. search needs) (λ c. search needs) (λ c. search needs)
     -- returns
     (λ c t u w v. rank-converts t u (sym (c .enum-told .given .1) ∙ c .before .before .type-rank .ensures t u w v))
     -- returns-2

@@ -1,7 +1,7 @@
 -- A mark is copied; a literal is converted, and one that does not convert is asked for by nobody.
 use native.Mathlib.Omega.{arith}
 use borrow.Author.Needs.{needs}
-use Rattle.conv.proofs.Steps.{item-front, item-within, mark-room, mark-put, literal-within, literal-room, literal-put, literal-never}
+use Rattle.conv.proofs.ItemSteps.{item-front, item-within, mark-room, mark-put, literal-within, literal-room, literal-put, literal-never}
 use Rattle.conv.proofs.put_item.Statement.{statement}
 use Rattle.conv.proofs.put_item.Tie as tie
 
@@ -26,13 +26,11 @@ put-item-spec =
     (λ c j a b n w g. mark-put w (c .before .before .before .before .before .if1 .taken) j g (c .before .before .before .before .item-end .ensures a w) (c .before .before .copy .ensures))
     -- literal-at-requires
     (λ c κs. literal-within (c .before .before .before .before .pre .stands) (c .if1 .left))
-    -- enum-known-p
     (λ c. search needs)
     -- put-literal-requires
     (λ c κs.
     let p = c .before .before .before .before .before .before .before .before .before .pre in
     literal-room (p .stands) (c .before .before .before .before .before .if1 .left) (p .kind) (p .no) (c .before .before .before .before .literal-at .ensures) (p .goes) (c .before .before .before .before .before .before .before .before .before .args .to) (c .before .before .p .given .1) (p .room))
-    -- enum-told
     (λ c. search needs)
     -- same-length-2
     (λ c. c .before .before .put-literal .kept .0)

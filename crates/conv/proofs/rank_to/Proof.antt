@@ -5,7 +5,7 @@ use borrow.Author.Tests.{not-true, not-false}
 use Rattle.meaning.specs.Trees.{Of}
 use Rattle.meaning.specs.Records.{goodArg}
 use Rattle.meaning.specs.Entries.{rankOne}
-use Rattle.ty.proofs.Numbers.{decided, refuted}
+use Rattle.record.proofs.Starts.{decided, refuted}
 use Rattle.conv.specs.Ranked.{paper}
 use Rattle.conv.proofs.Ranks.{one-read, none-read, rank-told, never-told}
 use Rattle.conv.proofs.rank_to.Statement.{statement}
@@ -16,16 +16,12 @@ unfolding paper goodArg rankOne
 rank-to-spec =
     tie.close
     (tie.spec
-    -- is-type-requires
     (λ c κs. search needs)
     -- returns
     (λ c t w. none-read (Of t) (λ u. refl) (λ i. c .before .before .shared-slice-known2 .given i .fits) (refuted (c .before .is-type .ensures) (not-true (c .before .is-type .result) (c .if1 .taken))))
     -- type-rank-requires
     (λ c κs. (decided (c .before .is-type .ensures) (not-false (c .before .is-type .result) (c .if1 .left)) .ends, c .before .before .before .before .pre))
-    -- enum-known-n
-    (λ c. search needs)
-    -- enum-told
-    (λ c. search needs)
+    (λ c. search needs) (λ c. search needs)
     -- returns-2
     (λ c t w.
     let x = decided (c .before .before .before .before .before .is-type .ensures) (not-false (c .before .before .before .before .before .is-type .result) (c .before .before .before .before .if1 .left)) in

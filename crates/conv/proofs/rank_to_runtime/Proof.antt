@@ -5,7 +5,7 @@ use borrow.Author.Tests.{not-true, not-false}
 use Rattle.meaning.specs.Trees.{Tr}
 use Rattle.meaning.specs.Records.{goodArg}
 use Rattle.meaning.specs.Entries.{rankOne}
-use Rattle.ty.proofs.Numbers.{decided, refuted}
+use Rattle.record.proofs.Starts.{decided, refuted}
 use Rattle.conv.specs.Ranked.{paper}
 use Rattle.conv.proofs.Ranks.{one-read, none-read}
 use Rattle.conv.proofs.rank_to_runtime.Statement.{statement}
@@ -16,7 +16,6 @@ unfolding paper goodArg rankOne
 rank-to-runtime-spec =
     tie.close
     (tie.spec
-    -- is-type-requires
     (λ c κs. search needs)
     -- returns
     (λ c t. none-read (Tr t) (λ u. refl) (λ i. c .before .before .shared-slice-known .given i .fits) (refuted (c .before .is-type .ensures) (not-true (c .before .is-type .result) (c .if1 .taken))))

@@ -10,15 +10,9 @@ pub same-shape-spec : {M : Type 1} → statement M
 same-shape-spec =
     tie.close
     (tie.spec
-    -- sub-m
-    (λ c. search needs)
-    -- sub-n
-    (λ c. search needs)
+    (λ c. search needs) (λ c. search needs)
     -- slice-aggregate-same-bytes
     (λ c. sym (length-take-le _ _ (omega arith)))
     -- slice-aggregate-same-bytes-2
     (λ c. sym (length-take-le _ _ (omega arith)))
-    -- same-bytes-requires
-    (λ c κs. search needs)
-    -- returns
-    (λ c. search needs))
+    (λ c κs. search needs) (λ c. search needs))

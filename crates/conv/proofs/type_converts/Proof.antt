@@ -8,15 +8,7 @@ pub type-converts-spec : {M : Type 1} → statement M
 type-converts-spec =
     tie.close
     (tie.spec
-    -- shared-slice-read-kind-converts
-    (λ c. search needs)
-    -- shared-slice-read-kind-converts-2
-    (λ c. search needs)
-    -- kind-converts-requires
-    (λ c κs. search needs)
+    (λ c. search needs) (λ c. search needs) (λ c κs. search needs)
     -- returns
     (λ c t u w v. scalars-convert w (c .before .before .before .before .if1 .taken) v (c .before .before .before .if2 .taken) (c .kind-converts .ensures))
-    -- other-converts-requires
-    (λ c κs. search needs)
-    -- returns-2
-    (λ c. search needs))
+    (λ c κs. search needs) (λ c. search needs))

@@ -9,24 +9,17 @@ pub type-rank-spec : {M : Type 1} → statement M
 type-rank-spec =
     tie.close
     (tie.spec
-    -- same-bytes-requires
     (λ c κs. search needs)
     -- returns
     (λ c t u w v. rank-same w v (c .before .same-bytes .ensures) (c .if1 .taken))
     -- leaf-at-requires
     (λ c κs. let x = c .before .before .before .before .pre .0 in record { type = x .type; end = _; stands = x .stands })
-    -- enum-known-j
-    (λ c. search needs)
-    -- enum-told
-    (λ c. search needs)
+    (λ c. search needs) (λ c. search needs)
     -- returns-2
     (λ c t u w v. rank-from-struct w v (c .before .before .before .before .same-bytes .ensures) (c .before .before .before .if1 .left) (sym (c .enum-told .given .1) ∙ c .before .before .leaf-at .ensures t _ w))
     -- leaf-at-requires-2
     (λ c κs. let x = c .before .before .before .before .before .before .before .before .pre .1 in record { type = x .type; end = _; stands = x .stands })
-    -- enum-known-k
-    (λ c. search needs)
-    -- enum-told-2
-    (λ c. search needs)
+    (λ c. search needs) (λ c. search needs)
     -- returns-3
     (λ c t u w v.
     rank-to-struct w v (c .before .before .before .before .before .before .before .before .same-bytes .ensures) (c .before .before .before .before .before .before .before .if1 .left) (sym (c .before .before .before .before .j .given .1) ∙ c .before .before .before .before .before .before .leaf-at .ensures t _ w)
@@ -37,7 +30,6 @@ type-rank-spec =
     let w = x .0 .stands in
     let v = x .1 .stands in
     (some-byte w (sym (c .before .before .before .before .before .j .given .1) ∙ c .before .before .before .before .before .before .before .leaf-at .ensures _ _ w), some-byte v (sym (c .before .k .given .1) ∙ c .before .before .before .leaf-at2 .ensures _ _ v)))
-    -- kind-rank-requires
     (λ c κs. search needs)
     -- returns-4
     (λ c t u w v.

@@ -3,7 +3,7 @@ use mathlib.Core.Path.{_∙_}
 use borrow.Author.Needs.{needs}
 use Rattle.meaning.specs.Records.{valBytes}
 use Rattle.conv.proofs.Values.{scan-items, scan-fits, some-map}
-use Rattle.conv.proofs.Types.{kind-scan, struct-fits}
+use Rattle.conv.proofs.ValueByType.{kind-scan, struct-fits}
 use Rattle.conv.proofs.value_fits.Statement.{statement}
 use Rattle.conv.proofs.value_fits.Tie as tie
 
@@ -11,13 +11,9 @@ pub value-fits-spec : {M : Type 1} → statement M
 value-fits-spec =
     tie.close
     (tie.spec
-    -- leaf-at-requires
-    (λ c κs. search needs)
-    -- enum-known-k
-    (λ c. search needs)
+    (λ c κs. search needs) (λ c. search needs)
     -- fits-requires
     (λ c κs. scan-items (kind-scan (c .before .before .before .before .before .before .pre .to) (c .before .before .before .leaf-at .ensures) (c .before .k .given .1) .scan))
-    -- enum-told
     (λ c. search needs)
     -- returns
     (λ c t v x. let y = kind-scan x (c .before .before .before .before .leaf-at .ensures) (c .before .before .k .given .1) in scan-fits (y .scan) (y .no) (c .fits2 .ensures) ∙ some-map valBytes _)

@@ -7,7 +7,7 @@ use Rattle.meaning.specs.Trees.{Val}
 use Rattle.meaning.specs.Records.{valBytes}
 use Rattle.meaning.specs.Answers.{mapSome}
 use Rattle.conv.proofs.Values.{scan-room, scan-put}
-use Rattle.conv.proofs.Types.{kind-scan, struct-into, struct-put}
+use Rattle.conv.proofs.ValueByType.{kind-scan, struct-into, struct-put}
 use Rattle.conv.proofs.write_converted.Statement.{statement}
 use Rattle.conv.proofs.write_converted.Tie as tie
 
@@ -16,16 +16,12 @@ unfolding mapSome
 write-converted-spec =
     tie.close
     (tie.spec
-    -- leaf-at-requires
-    (λ c κs. search needs)
-    -- enum-known-k
-    (λ c. search needs)
+    (λ c κs. search needs) (λ c. search needs)
     -- convert-requires
     (λ c κs.
     let p = c .before .before .before .before .before .before .before .before .pre in
     let y = kind-scan (p .asked) (c .before .before .before .before .leaf-at .ensures) (c .before .before .k .given .1) in
     scan-room (y .scan) (y .no) (ap (mapSome valBytes) (p .goes)) (p .room))
-    -- enum-told
     (λ c. search needs)
     -- copy-requires
     (λ c κs.

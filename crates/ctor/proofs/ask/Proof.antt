@@ -1,8 +1,8 @@
 -- The parts of the input, as they are lent.
 use borrow.Author.Needs.{needs}
 use Rattle.meaning.specs.Entries.{buildAnswer}
-use Rattle.call.proofs.Answers.{told-as}
-use Rattle.line.proofs.Splits.{asked-parts}
+use Rattle.error.proofs.Told.{told-as}
+use Rattle.ctor_line.proofs.Splits.{asked-parts}
 use Rattle.ctor.proofs.ask.Statement.{statement}
 use Rattle.ctor.proofs.ask.Tie as tie
 
@@ -10,26 +10,8 @@ pub ask-spec : {M : Type 1} → statement M
 ask-spec =
     tie.close
     (tie.spec
-    -- add-end
-    (λ c. search needs)
-    -- shared-slice-read-call-ctor
-    (λ c. search needs)
-    -- sub-call-ctor
-    (λ c. search needs)
-    -- part-call-ctor-start
-    (λ c. search needs)
-    -- part-call-ctor-end
-    (λ c. search needs)
-    -- sub-call-ctor-2
-    (λ c. search needs)
-    -- part-call-ctor-start-2
-    (λ c. search needs)
-    -- part-call-ctor-end-2
-    (λ c. search needs)
-    -- call-ctor-requires
-    (λ c κs. search needs)
-    -- same-length
-    (λ c. search needs)
+    (λ c. search needs) (λ c. search needs) (λ c. search needs) (λ c. search needs) (λ c. search needs) (λ c. search needs) (λ c. search needs)
+    (λ c. search needs) (λ c κs. search needs) (λ c. search needs)
     -- returns
     (λ c.
     let s = c .before .before .before .before .before .before .before .before .before in

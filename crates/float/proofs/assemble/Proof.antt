@@ -6,29 +6,11 @@ use Rattle.float.proofs.Fields.{fits, bounded, nan-bits, inf-bits, fin-
 use Rattle.float.proofs.assemble.Statement.{statement}
 use Rattle.float.proofs.assemble.Tie as tie
 
-enum-told : tie.Need-enum-told
-enum-told c = search needs
-
-infinity-requires : tie.Need-infinity-requires
-infinity-requires c κs = search needs
-
-placed-requires : tie.Need-placed-requires
-placed-requires c κs = search needs
-
 add-result : tie.Need-add-result
 add-result c =
     let s = c .before .before .before .before in
     let a = s .args in
     record { fits = fits (a .p) (a .emax) (s .pre .0) nan (nan-bits (a .p) (a .emax) (c .before .infinity .ensures) (c .placed .ensures)) }
-
-enum-known-v : tie.Need-enum-known-v
-enum-known-v c = search needs
-
-sign-requires : tie.Need-sign-requires
-sign-requires c κs = search needs
-
-infinity-requires-2 : tie.Need-infinity-requires-2
-infinity-requires-2 c κs = search needs
 
 add-result-2 : tie.Need-add-result-2
 add-result-2 c =
@@ -37,12 +19,6 @@ add-result-2 c =
     let a = s .args in
     let i = v .v .given .0 .0 in
     record { fits = fits (a .p) (a .emax) (s .pre .0) (inf i) (inf-bits (a .p) (a .emax) i (c .before .sign .ensures) (c .infinity2 .ensures)) }
-
-enum-known-v-2 : tie.Need-enum-known-v-2
-enum-known-v-2 c = search needs
-
-sign-requires-2 : tie.Need-sign-requires-2
-sign-requires-2 c κs = search needs
 
 pack-requires : tie.Need-pack-requires
 pack-requires c κs =
@@ -88,18 +64,5 @@ pub assemble-spec : {M : Type 1} → statement M
 assemble-spec =
     tie.close
     (tie.spec
-    enum-told
-    infinity-requires
-    placed-requires
-    add-result
-    enum-known-v
-    sign-requires
-    infinity-requires-2
-    add-result-2
-    enum-known-v-2
-    sign-requires-2
-    pack-requires
-    add-result-3
-    returns
-    returns-2
-    returns-3)
+    (λ c. search needs) (λ c κs. search needs) (λ c κs. search needs) add-result (λ c. search needs) (λ c κs. search needs) (λ c κs. search needs) add-result-2
+    (λ c. search needs) (λ c κs. search needs) pack-requires add-result-3 returns returns-2 returns-3)

@@ -14,25 +14,13 @@ returns-2 c =
     let a = c .before .before .before .args in
     beyond-far (a .m) (a .e) (a .limit) (a .d) (c .before .if2 .taken) (far-up (a .m) (a .limit) (a .e - a .d) (omega arith) (omega arith) (c .if3 .taken))
 
-shr-result : tie.Need-shr-result
-shr-result c = search needs
-
 returns-3 : tie.Need-returns-3
 returns-3 c = let a = c .before .before .before .args in beyond-up (a .m) (a .e) (a .limit) (a .d) (c .before .if2 .taken)
-
-sub-down : tie.Need-sub-down
-sub-down c = search needs
 
 returns-4 : tie.Need-returns-4
 returns-4 c =
     let a = c .before .before .before .args in
     beyond-near (a .m) (a .e) (a .limit) (a .d) (omega arith) (omega arith) (omega arith) (c .if4 .taken)
-
-sub-result : tie.Need-sub-result
-sub-result c = search needs
-
-shr-result-2 : tie.Need-shr-result-2
-shr-result-2 c = search needs
 
 returns-5 : tie.Need-returns-5
 returns-5 c = let a = c .before .before .before .args in beyond-down (a .m) (a .e) (a .limit) (a .d) (omega arith) (omega arith)
@@ -41,12 +29,4 @@ pub beyond-spec : {M : Type 1} → statement M
 beyond-spec =
     tie.close
     (tie.spec
-    returns
-    returns-2
-    shr-result
-    returns-3
-    sub-down
-    returns-4
-    sub-result
-    shr-result-2
-    returns-5)
+    returns returns-2 (λ c. search needs) returns-3 (λ c. search needs) returns-4 (λ c. search needs) (λ c. search needs) returns-5)

@@ -5,12 +5,6 @@ use Rattle.meaning.specs.Floats.{bits}
 use Rattle.float.proofs.convert.Statement.{statement}
 use Rattle.float.proofs.convert.Tie as tie
 
-unpack-requires : tie.Need-unpack-requires
-unpack-requires c κs = search needs
-
-assemble-requires : tie.Need-assemble-requires
-assemble-requires c κs = search needs
-
 returns : tie.Need-returns
 returns c =
     let a = c .before .before .args in
@@ -18,4 +12,4 @@ returns c =
     (c .assemble .ensures .0 ∙ e, c .assemble .ensures .1)
 
 pub convert-spec : {M : Type 1} → statement M
-convert-spec = tie.close (tie.spec unpack-requires assemble-requires returns)
+convert-spec = tie.close (tie.spec (λ c κs. search needs) (λ c κs. search needs) returns)

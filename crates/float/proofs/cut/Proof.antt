@@ -8,17 +8,8 @@ use Rattle.float.proofs.Ranges.{none-left, some-left, zero-left, far-up
 use Rattle.float.proofs.cut.Statement.{statement}
 use Rattle.float.proofs.cut.Tie as tie
 
-sub-down : tie.Need-sub-down
-sub-down c = search needs
-
 returns : tie.Need-returns
 returns c = let a = c .before .before .args in none-left (a .m) (a .e) (a .limit) 1074 (omega arith) (omega arith) (c .if2 .taken)
-
-shr-smaller : tie.Need-shr-smaller
-shr-smaller c = search needs
-
-smaller-requires : tie.Need-smaller-requires
-smaller-requires c κs = search needs
 
 returns-2 : tie.Need-returns-2
 returns-2 c = let a = c .before .before .before .args in some-left (a .m) (a .e) (a .limit) 1074 (omega arith) (c .smaller .ensures)
@@ -31,16 +22,10 @@ returns-4 c =
     let a = c .before .before .before .args in
     over (a .m) (a .e) (a .limit) 1074 (omega arith) (far-up (a .m) (a .limit) (a .e - 1074) (omega arith) (omega arith) (c .if4 .taken))
 
-shr-if5 : tie.Need-shr-if5
-shr-if5 c = search needs
-
 returns-5 : tie.Need-returns-5
 returns-5 c =
     let a = c .before .before .before .before .args in
     over (a .m) (a .e) (a .limit) 1074 (omega arith) (div-lt-iff-lt-mul (pow-pos (a .e - 1074)) .0 (c .if5 .taken))
-
-shl-result : tie.Need-shl-result
-shl-result c = search needs
 
 returns-6 : tie.Need-returns-6
 returns-6 c = let a = c .before .before .before .before .args in under (a .m) (a .e) (a .limit) 1074 (omega arith) (omega arith) (c .if5 .left)
@@ -49,14 +34,5 @@ pub cut-spec : {M : Type 1} → statement M
 cut-spec =
     tie.close
     (tie.spec
-    sub-down
-    returns
-    shr-smaller
-    smaller-requires
-    returns-2
-    returns-3
-    returns-4
-    shr-if5
-    returns-5
-    shl-result
+    (λ c. search needs) returns (λ c. search needs) (λ c κs. search needs) returns-2 returns-3 returns-4 (λ c. search needs) returns-5 (λ c. search needs)
     returns-6)

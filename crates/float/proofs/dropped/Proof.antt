@@ -12,18 +12,6 @@ cast-digits c = omega (arith, leading-le 64 (c .args .m))
 sub-digits : tie.Need-sub-digits
 sub-digits c = omega (arith, leading-le 64 (c .args .m))
 
-add-digits : tie.Need-add-digits
-add-digits c = search needs
-
-unit-requires : tie.Need-unit-requires
-unit-requires c κs = search needs
-
-less-requires : tie.Need-less-requires
-less-requires c κs = search needs
-
-less-requires-2 : tie.Need-less-requires-2
-less-requires-2 c κs = search needs
-
 returns : tie.Need-returns
 returns c =
     let u = c .before .before in
@@ -34,10 +22,4 @@ pub dropped-spec : {M : Type 1} → statement M
 dropped-spec =
     tie.close
     (tie.spec
-    cast-digits
-    sub-digits
-    add-digits
-    unit-requires
-    less-requires
-    less-requires-2
-    returns)
+    cast-digits sub-digits (λ c. search needs) (λ c κs. search needs) (λ c κs. search needs) (λ c κs. search needs) returns)

@@ -6,9 +6,6 @@ use Rattle.float.proofs.Rounds.{masked}
 use Rattle.float.proofs.low.Statement.{statement}
 use Rattle.float.proofs.low.Tie as tie
 
-power-requires : tie.Need-power-requires
-power-requires c κs = search needs
-
 sub-result : tie.Need-sub-result
 sub-result c = omega (arith, pow-pos (c .before .args .k))
 
@@ -16,4 +13,4 @@ returns : tie.Need-returns
 returns c = masked (c .before .args .x) (c .before .args .k) (c .power .ensures)
 
 pub low-spec : {M : Type 1} → statement M
-low-spec = tie.close (tie.spec power-requires sub-result returns)
+low-spec = tie.close (tie.spec (λ c κs. search needs) sub-result returns)

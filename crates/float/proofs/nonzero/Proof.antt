@@ -5,15 +5,6 @@ use Rattle.float.proofs.Ranges.{positive}
 use Rattle.float.proofs.nonzero.Statement.{statement}
 use Rattle.float.proofs.nonzero.Tie as tie
 
-enum-told : tie.Need-enum-told
-enum-told c = search needs
-
-enum-told-2 : tie.Need-enum-told-2
-enum-told-2 c = search needs
-
-enum-known-v : tie.Need-enum-known-v
-enum-known-v c = search needs
-
 returns : tie.Need-returns
 unfolding Scalars.nonzero
 returns c = rw (c .enum-told .given .1)
@@ -27,4 +18,4 @@ unfolding Scalars.nonzero
 returns-3 c = let g = c .before .v .given in rw (g .1) (positive (g .0 .1 .0) (g .0 .1 .1 .0))
 
 pub nonzero-spec : {M : Type 1} → statement M
-nonzero-spec = tie.close (tie.spec enum-told enum-told-2 enum-known-v returns returns-2 returns-3)
+nonzero-spec = tie.close (tie.spec (λ c. search needs) (λ c. search needs) (λ c. search needs) returns returns-2 returns-3)

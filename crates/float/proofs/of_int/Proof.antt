@@ -5,12 +5,6 @@ use Rattle.meaning.specs.Floats.{bits}
 use Rattle.float.proofs.of_int.Statement.{statement}
 use Rattle.float.proofs.of_int.Tie as tie
 
-int-parts-requires : tie.Need-int-parts-requires
-int-parts-requires c κs = search needs
-
-assemble-requires : tie.Need-assemble-requires
-assemble-requires c κs = search needs
-
 returns : tie.Need-returns
 returns c =
     let a = c .before .before .args in
@@ -18,4 +12,4 @@ returns c =
     (c .assemble .ensures .0 ∙ e, c .assemble .ensures .1)
 
 pub of-int-spec : {M : Type 1} → statement M
-of-int-spec = tie.close (tie.spec int-parts-requires assemble-requires returns)
+of-int-spec = tie.close (tie.spec (λ c κs. search needs) (λ c κs. search needs) returns)

@@ -10,32 +10,8 @@ use Rattle.float.proofs.Ranges.{largest-is}
 use Rattle.float.proofs.outside.Statement.{statement}
 use Rattle.float.proofs.outside.Tie as tie
 
-enum-told : tie.Need-enum-told
-enum-told c = search needs
-
-enum-told-2 : tie.Need-enum-told-2
-enum-told-2 c = search needs
-
-enum-known-v : tie.Need-enum-known-v
-enum-known-v c = search needs
-
-power-requires : tie.Need-power-requires
-power-requires c κs = search needs
-
 sub-beyond : tie.Need-sub-beyond
 sub-beyond c = omega (arith, pow-pos (c .before .before .before .before .args .p))
-
-add-beyond : tie.Need-add-beyond
-add-beyond c = search needs
-
-sub-beyond-2 : tie.Need-sub-beyond-2
-sub-beyond-2 c = search needs
-
-add-beyond-2 : tie.Need-add-beyond-2
-add-beyond-2 c = search needs
-
-beyond-requires : tie.Need-beyond-requires
-beyond-requires c κs = search needs
 
 returns : tie.Need-returns
 unfolding Floats.outside
@@ -56,15 +32,5 @@ pub outside-spec : {M : Type 1} → statement M
 outside-spec =
     tie.close
     (tie.spec
-    enum-told
-    enum-told-2
-    enum-known-v
-    power-requires
-    sub-beyond
-    add-beyond
-    sub-beyond-2
-    add-beyond-2
-    beyond-requires
-    returns
-    returns-2
-    returns-3)
+    (λ c. search needs) (λ c. search needs) (λ c. search needs) (λ c κs. search needs) sub-beyond (λ c. search needs) (λ c. search needs) (λ c. search needs)
+    (λ c κs. search needs) returns returns-2 returns-3)

@@ -8,24 +8,12 @@ use Rattle.float.proofs.pack.Tie as tie
 returns : tie.Need-returns
 returns c = let a = c .before .args in packs-zero (a .p) (a .emax) (a .m) (a .e) (c .if1 .taken)
 
-dropped-requires : tie.Need-dropped-requires
-dropped-requires c κs = search needs
-
-unit-requires : tie.Need-unit-requires
-unit-requires c κs = search needs
-
-add-scaled : tie.Need-add-scaled
-add-scaled c = search needs
-
 scaled-requires : tie.Need-scaled-requires
 scaled-requires c κs =
     let d = c .before in
     let s = d .before .before in
     let a = s .args in
     room-up (a .p) (a .emax) (a .m) (a .e) (c .unit .ensures) (s .pre .0) (d .dropped .ensures .0) (omega arith)
-
-placed-requires : tie.Need-placed-requires
-placed-requires c κs = search needs
 
 add-smaller : tie.Need-add-smaller
 add-smaller c =
@@ -36,12 +24,6 @@ add-smaller c =
     record {
       fits = sum-fits (a .p) (a .emax) (a .m) (a .e) (u .unit .ensures) (s .pre .0) (d .dropped .ensures .0) (c .placed .ensures) (c .before .scaled .ensures) (omega arith);
     }
-
-infinity-requires : tie.Need-infinity-requires
-infinity-requires c κs = search needs
-
-smaller-requires : tie.Need-smaller-requires
-smaller-requires c κs = search needs
 
 returns-2 : tie.Need-returns-2
 returns-2 c =
@@ -58,13 +40,5 @@ pub pack-spec : {M : Type 1} → statement M
 pack-spec =
     tie.close
     (tie.spec
-    returns
-    dropped-requires
-    unit-requires
-    add-scaled
-    scaled-requires
-    placed-requires
-    add-smaller
-    infinity-requires
-    smaller-requires
-    returns-2)
+    returns (λ c κs. search needs) (λ c κs. search needs) (λ c. search needs) scaled-requires (λ c κs. search needs) add-smaller (λ c κs. search needs)
+    (λ c κs. search needs) returns-2)

@@ -4,14 +4,8 @@ use Rattle.float.proofs.Rounds.{placed-exact}
 use Rattle.float.proofs.placed.Statement.{statement}
 use Rattle.float.proofs.placed.Tie as tie
 
-sub-result : tie.Need-sub-result
-sub-result c = search needs
-
-shl-result : tie.Need-shl-result
-shl-result c = search needs
-
 returns : tie.Need-returns
 returns c = placed-exact (c .args .p) (c .args .f) (c .pre .1) (c .pre .2)
 
 pub placed-spec : {M : Type 1} → statement M
-placed-spec = tie.close (tie.spec sub-result shl-result returns)
+placed-spec = tie.close (tie.spec (λ c. search needs) (λ c. search needs) returns)

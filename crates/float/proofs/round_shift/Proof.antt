@@ -11,12 +11,6 @@ returns c = none (c .before .args .m) (c .before .args .sh) (c .if1 .taken)
 returns-2 : tie.Need-returns-2
 returns-2 c = let a = c .before .before .args in far (a .m) (a .sh) (search needs) (c .if2 .taken)
 
-sub-power : tie.Need-sub-power
-sub-power c = search needs
-
-power-requires : tie.Need-power-requires
-power-requires c κs = search needs
-
 returns-3 : tie.Need-returns-3
 returns-3 c =
     let h = c .before .before in
@@ -28,12 +22,6 @@ returns-4 c =
     let h = c .before .before in
     let a = h .before .before .before .args in
     edge-down (a .m) (a .sh) (omega arith) (h .power .ensures) (rw (c .before .if3 .taken) (omega arith)) (c .if4 .left)
-
-shr-q : tie.Need-shr-q
-shr-q c = search needs
-
-low-requires : tie.Need-low-requires
-low-requires c κs = search needs
 
 add-if5 : tie.Need-add-if5
 add-if5 c =
@@ -60,15 +48,5 @@ pub round-shift-spec : {M : Type 1} → statement M
 round-shift-spec =
     tie.close
     (tie.spec
-    returns
-    returns-2
-    sub-power
-    power-requires
-    returns-3
-    returns-4
-    shr-q
-    low-requires
-    add-if5
-    add-result
-    returns-5
+    returns returns-2 (λ c. search needs) (λ c κs. search needs) returns-3 returns-4 (λ c. search needs) (λ c κs. search needs) add-if5 add-result returns-5
     returns-6)

@@ -12,24 +12,10 @@ pub rounds-finite-spec : {M : Type 1} → statement M
 rounds-finite-spec =
     tie.close
     (tie.spec
-    -- enum-told
-    (λ c. search needs)
-    -- enum-told-2
-    (λ c. search needs)
-    -- enum-known-v
-    (λ c. search needs)
-    -- add-power
-    (λ c. search needs)
-    -- power-requires
-    (λ c κs. search needs)
+    (λ c. search needs) (λ c. search needs) (λ c. search needs) (λ c. search needs) (λ c κs. search needs)
     -- sub-beyond
     (λ c. omega (arith, pow-pos (c .before .before .before .before .args .p + 1)))
-    -- add-beyond
-    (λ c. search needs)
-    -- sub-beyond-2
-    (λ c. search needs)
-    -- beyond-requires
-    (λ c κs. search needs)
+    (λ c. search needs) (λ c. search needs) (λ c κs. search needs)
     -- returns
     (λ c.
     let s = c .before .before in

@@ -10,12 +10,6 @@ use Rattle.float.proofs.scaled.Tie as tie
 shl-result : tie.Need-shl-result
 shl-result c = c .before .pre (c .if1 .taken) .0
 
-sub-round-shift : tie.Need-sub-round-shift
-sub-round-shift c = search needs
-
-round-shift-requires : tie.Need-round-shift-requires
-round-shift-requires c κs = search needs
-
 returns : tie.Need-returns
 returns c = let a = c .before .args in shifted-up (a .m) (a .e) (a .d) (c .if1 .taken) (c .before .pre (c .if1 .taken) .1)
 
@@ -24,4 +18,4 @@ returns-2 c = let a = c .before .before .args in c .round-shift .ensures ∙ sym
 
 pub scaled-spec : {M : Type 1} → statement M
 scaled-spec =
-    tie.close (tie.spec shl-result sub-round-shift round-shift-requires returns returns-2)
+    tie.close (tie.spec shl-result (λ c. search needs) (λ c κs. search needs) returns returns-2)

@@ -9,28 +9,10 @@ use Rattle.float.proofs.Ranges.{end-le}
 use Rattle.float.proofs.toward.Statement.{statement}
 use Rattle.float.proofs.toward.Tie as tie
 
-enum-told : tie.Need-enum-told
-enum-told c = search needs
-
-enum-known-v : tie.Need-enum-known-v
-enum-known-v c = search needs
-
-end-requires : tie.Need-end-requires
-end-requires c κs = search needs
-
 wrap-requires : tie.Need-wrap-requires
 wrap-requires c κs =
     let s = c .before .before .before .before in
     end-le (c .before .before .v .given .0 .0) (s .pre .0) (s .pre .1) (le-of-eq (c .end .ensures))
-
-enum-known-v-2 : tie.Need-enum-known-v-2
-enum-known-v-2 c = search needs
-
-end-requires-2 : tie.Need-end-requires-2
-end-requires-2 c κs = search needs
-
-cut-requires : tie.Need-cut-requires
-cut-requires c κs = search needs
 
 wrap-requires-2 : tie.Need-wrap-requires-2
 wrap-requires-2 c κs =
@@ -60,14 +42,5 @@ pub toward-spec : {M : Type 1} → statement M
 toward-spec =
     tie.close
     (tie.spec
-    enum-told
-    enum-known-v
-    end-requires
-    wrap-requires
-    enum-known-v-2
-    end-requires-2
-    cut-requires
-    wrap-requires-2
-    returns
-    returns-2
-    returns-3)
+    (λ c. search needs) (λ c. search needs) (λ c κs. search needs) wrap-requires (λ c. search needs) (λ c κs. search needs) (λ c κs. search needs)
+    wrap-requires-2 returns returns-2 returns-3)

@@ -4,24 +4,6 @@ use Rattle.float.proofs.Fields.{at-inf, at-nan, at-low, at-fin, digits-
 use Rattle.float.proofs.unpack.Statement.{statement}
 use Rattle.float.proofs.unpack.Tie as tie
 
-sign-requires : tie.Need-sign-requires
-sign-requires c κs = search needs
-
-field-requires : tie.Need-field-requires
-field-requires c κs = search needs
-
-sub-low : tie.Need-sub-low
-sub-low c = search needs
-
-low-requires : tie.Need-low-requires
-low-requires c κs = search needs
-
-mul-if1 : tie.Need-mul-if1
-mul-if1 c = search needs
-
-add-if1 : tie.Need-add-if1
-add-if1 c = search needs
-
 returns : tie.Need-returns
 returns c =
     let l = c .before .before in
@@ -36,9 +18,6 @@ returns-2 c =
     let a = s .args in
     at-nan (a .p) (a .emax) (a .w) (a .x) (s .pre) (l .before .field .ensures) (l .low .ensures) (l .before .before .sign .ensures) (c .before .if1 .taken) (c .if2 .left)
 
-unit-requires : tie.Need-unit-requires
-unit-requires c κs = search needs
-
 returns-3 : tie.Need-returns-3
 returns-3 c =
     let u = c .before in
@@ -47,18 +26,12 @@ returns-3 c =
     let a = s .args in
     at-low (a .p) (a .emax) (a .w) (a .x) (s .pre) (l .before .field .ensures) (l .low .ensures) (l .before .before .sign .ensures) (u .unit .ensures) (c .if3 .taken)
 
-placed-requires : tie.Need-placed-requires
-placed-requires c κs = search needs
-
 add-m : tie.Need-add-m
 add-m c =
     let l = c .before .before .before .before in
     let s = l .before .before .before in
     let a = s .args in
     record { fits = digits-fit (a .p) (a .emax) (a .w) (a .x) (s .pre) (l .before .field .ensures) (l .low .ensures) (l .before .before .sign .ensures) (c .placed .ensures) }
-
-sub-e : tie.Need-sub-e
-sub-e c = search needs
 
 add-e : tie.Need-add-e
 add-e c =
@@ -82,18 +55,5 @@ pub unpack-spec : {M : Type 1} → statement M
 unpack-spec =
     tie.close
     (tie.spec
-    sign-requires
-    field-requires
-    sub-low
-    low-requires
-    mul-if1
-    add-if1
-    returns
-    returns-2
-    unit-requires
-    returns-3
-    placed-requires
-    add-m
-    sub-e
-    add-e
-    returns-4)
+    (λ c κs. search needs) (λ c κs. search needs) (λ c. search needs) (λ c κs. search needs) (λ c. search needs) (λ c. search needs) returns returns-2
+    (λ c κs. search needs) returns-3 (λ c κs. search needs) add-m (λ c. search needs) add-e returns-4)

@@ -7,21 +7,6 @@ use Rattle.float.proofs.Ranges.{inside}
 use Rattle.float.proofs.within.Statement.{statement}
 use Rattle.float.proofs.within.Tie as tie
 
-enum-told : tie.Need-enum-told
-enum-told c = search needs
-
-enum-told-2 : tie.Need-enum-told-2
-enum-told-2 c = search needs
-
-enum-known-v : tie.Need-enum-known-v
-enum-known-v c = search needs
-
-end-requires : tie.Need-end-requires
-end-requires c κs = search needs
-
-beyond-requires : tie.Need-beyond-requires
-beyond-requires c κs = search needs
-
 returns : tie.Need-returns
 unfolding Scalars.within
 returns c = rw (c .enum-told .given .1)
@@ -41,11 +26,4 @@ pub within-spec : {M : Type 1} → statement M
 within-spec =
     tie.close
     (tie.spec
-    enum-told
-    enum-told-2
-    enum-known-v
-    end-requires
-    beyond-requires
-    returns
-    returns-2
-    returns-3)
+    (λ c. search needs) (λ c. search needs) (λ c. search needs) (λ c κs. search needs) (λ c κs. search needs) returns returns-2 returns-3)

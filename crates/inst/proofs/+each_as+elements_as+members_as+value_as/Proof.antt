@@ -7,12 +7,12 @@ use borrow.Author.Needs.{needs}
 use lib.ListN.{length}
 use Rattle.meaning.specs.Trees.{Ty, Tys}
 use Rattle.ty.specs.Stands.{Stands, StandAll}
-use Rattle.ty.specs.Fronts.{Same}
+use Rattle.ty.specs.TypeFronts.{Same}
 use Rattle.ty.proofs.Heads.{any-front, array-here, struct-here}
 use Rattle.ty.proofs.Walks.{same-trans}
 use Rattle.inst.specs.Values.{FitsAll, copies}
-use Rattle.inst.specs.Answers.{ReadAs}
-use Rattle.inst.proofs.Rows.{holds, fails, each-on, each-none, each-end}
+use Rattle.inst.specs.Reading.{ReadAs}
+use Rattle.inst.proofs.ValueRows.{holds, fails, each-on, each-none, each-end}
 use Rattle.inst.proofs.ByType.{scalar-kind, vector-kind, matrix-kind, scalar-says, scalars-say, vector-says, matrix-says, array-unlike, array-says, struct-unlike, struct-says}
 use Rattle.inst.proofs.ByType.{MembersLeft, left-first, left-again, left-none, left-end}
 use borrow.Fn.Kinds.{In}
@@ -30,10 +30,10 @@ use Rattle.inst.proofs.value_as.Reads as value-as
 use Rattle.inst.proofs.value_as.Kinds as value-as-kinds
 use Rattle.inst.proofs.+each_as+elements_as+members_as+value_as.Lts-value_as as value-as-lts
 use Rattle.inst.proofs.four_at.Reads as four-at-reads
-use Rattle.inst.proofs.high.Reads as high-reads
+use Rattle.record.proofs.high.Reads as high-reads
 use Rattle.inst.proofs.literal_as.Reads as literal-as-reads
 use Rattle.inst.proofs.literals.Reads as literals-reads
-use Rattle.inst.proofs.low.Reads as low-reads
+use Rattle.record.proofs.low.Reads as low-reads
 use Rattle.inst.proofs.matrix_as.Reads as matrix-as-reads
 use Rattle.inst.proofs.struct_starts.Reads as struct-starts-reads
 use Rattle.inst.proofs.vector_as.Reads as vector-as-reads
@@ -102,20 +102,14 @@ pub +each-as+elements-as+members-as+value-as-spec : {M : Type 1} → statement M
     (λ c. (c .before .before .pre .1 .1, λ u z w. ((λ e. ((λ x. x), λ x. x)), λ f. absurd (f refl))))
     -- value-as-requires
     (λ c κs. (omega (arith, c .before .before .before .before .pre .0), c .before .before .before .before .pre .1 .0))
-    -- enum-known-e
-    (λ c. search needs)
-    -- enum-told
-    (λ c. search needs)
+    (λ c. search needs) (λ c. search needs)
     -- returns
     (λ c u z w e x.
     let a = c .before .before .before .before .before .before .before .args in
     let l = c .before .before .before .before .loop in
     each-none (a .s .now) (l .i) (l .left) u (c .before .before .before .loop-test .taken)
     (subst (ReadAs (a .depth) (a .ty .now) (a .o) (a .s .now) (l .i)) (c .enum-told .given .1) (c .before .before .value-as .ensures) u z w) e (l .inv .1 u z w .0 e .1 x))
-    -- sub-left
-    (λ c. omega arith)
-    -- loop-less
-    (λ c. omega arith)
+    (λ c. omega arith) (λ c. omega arith)
     -- loop-again
     (λ c.
     let a = c .before .before .before .before .before .before .before .before .args in
@@ -135,13 +129,11 @@ pub +each-as+elements-as+members-as+value-as-spec : {M : Type 1} → statement M
     elements-as-lts.spec (head-at-reads.Asked, head-at-reads.Learnt, literals-reads.Asked, literals-reads.Learnt, with-type-reads.Asked, with-type-reads.Learnt, each-as-below t, each-as.Post) (elements-as-at t) elements-as.Post
     -- head-at-requires
     (λ c κs. c .before .before .pre .1 .0)
-    -- enum-known-h
     (λ c. search needs)
     -- literals-requires
     (λ c κs. let a = c .before .before .before .before .before .before .args in (scalar-kind (a .depth) (a .ty .now) (a .o) (c .before .before .before .before .before .before .pre .1 .0) (c .before .before .before .head-at .ensures) (c .before .h .given .1), c .before .before .before .before .before .before .pre .1 .1))
     -- add-with-type
     (λ c. let a = c .before .before .before .before .before .before .before .args in let p = c .before .before .before .before .before .before .before .pre .1 .0 in record { fits = omega (arith, any-front (p .stands)) })
-    -- with-type-requires
     (λ c κs. search needs)
     -- returns
     (λ c u z w.
@@ -162,20 +154,14 @@ pub +each-as+elements-as+members-as+value-as-spec : {M : Type 1} → statement M
     let l = c .before .loop in
     let p = c .before .before .before .before .pre .1 .0 in
     (omega (arith, c .before .before .before .before .pre .0), left-first (a .depth) (a .ty .now) (a .s .now) (a .at) (p .types) (p .end) (l .i) (l .q) (l .left) (l .inv .1 (p .types) (p .end) (p .stands)) (c .loop-test .taken)))
-    -- enum-known-e
-    (λ c. search needs)
-    -- enum-told
-    (λ c. search needs)
+    (λ c. search needs) (λ c. search needs)
     -- returns
     (λ c m z w.
     let a = c .before .before .before .before .before .before .before .args in
     let l = c .before .before .before .before .loop in
     left-none (a .depth) (a .ty .now) (a .s .now) (a .at) m z (l .i) (l .q) (l .left) (l .inv .1 m z w) (c .before .before .before .loop-test .taken)
     (subst (ReadAs (a .depth) (a .ty .now) (l .q) (a .s .now) (l .i)) (c .enum-told .given .1) (c .before .before .value-as .ensures)))
-    -- sub-left
-    (λ c. omega arith)
-    -- loop-less
-    (λ c. omega arith)
+    (λ c. omega arith) (λ c. omega arith)
     -- loop-again
     (λ c.
     let a = c .before .before .before .before .before .before .before .before .args in
@@ -197,38 +183,18 @@ pub +each-as+elements-as+members-as+value-as-spec : {M : Type 1} → statement M
     (value-as-at t) value-as.Post
     -- head-at-requires
     (λ c κs. c .before .before .pre .1)
-    -- enum-known-k
     (λ c. search needs)
     -- literal-as-requires
     (λ c κs. let a = c .before .before .before .before .before .before .args in scalar-kind (a .depth) (a .ty .now) (a .o) (c .before .before .before .before .before .before .pre .1) (c .before .before .before .head-at .ensures) (c .before .k .given .1))
     -- add-with-type
     (λ c. let a = c .before .before .before .before .before .before .before .args in let p = c .before .before .before .before .before .before .before .pre .1 in record { fits = omega (arith, any-front (p .stands)) })
-    -- with-type-requires
-    (λ c κs. search needs)
-    -- enum-known-n
-    (λ c. search needs)
+    (λ c κs. search needs) (λ c. search needs)
     -- vector-as-requires
     (λ c κs. let a = c .before .before .before .before .before .before .args in vector-kind (a .depth) (a .ty .now) (a .o) (c .before .before .before .before .before .before .pre .1) (c .before .before .before .head-at .ensures) (c .before .n .given .1))
-    -- add-with-type-2
-    (λ c. search needs)
-    -- with-type-requires-2
-    (λ c κs. search needs)
-    -- enum-known-c
-    (λ c. search needs)
+    (λ c. search needs) (λ c κs. search needs) (λ c. search needs)
     -- matrix-as-requires
     (λ c κs. let a = c .before .before .before .before .before .before .args in matrix-kind (a .depth) (a .ty .now) (a .o) (c .before .before .before .before .before .before .pre .1) (c .before .before .before .head-at .ensures) (c .before .c .given .1))
-    -- add-with-type-3
-    (λ c. search needs)
-    -- with-type-requires-3
-    (λ c κs. search needs)
-    -- enum-known-n-2
-    (λ c. search needs)
-    -- low-requires
-    (λ c κs. search needs)
-    -- high-requires
-    (λ c κs. search needs)
-    -- four-at-requires
-    (λ c κs. search needs)
+    (λ c. search needs) (λ c κs. search needs) (λ c. search needs) (λ c κs. search needs) (λ c κs. search needs) (λ c κs. search needs)
     -- returns
     (λ c u z w.
     let a = c .before .before .before .before .before .before .before .before .before .before .args in
@@ -236,7 +202,6 @@ pub +each-as+elements-as+members-as+value-as-spec : {M : Type 1} → statement M
     (fails (c .before .four-at .result) (rw (c .before .before .before .low .ensures, c .before .before .high .ensures) at (c .before .four-at .ensures)) (c .if1 .taken)))
     -- add-elements-as
     (λ c. let w = holds (c .before .four-at .result) (c .before .four-at .ensures) (c .if1 .left) in record { fits = omega (arith, w .room) })
-    -- add-elements-as-2
     (λ c. search needs)
     -- sub-elements-as
     (λ c. let a = c .before .before .before .before .before .before .before .before .before .before .args in array-here (c .before .before .before .before .before .before .before .before .before .before .pre .1) (c .before .before .before .before .before .before .before .head-at .ensures) (c .before .before .before .before .before .n2 .given .1) .deep)
@@ -247,10 +212,7 @@ pub +each-as+elements-as+members-as+value-as-spec : {M : Type 1} → statement M
       omega (arith, c .before .before .before .before .before .before .before .before .before .before .pre .0, x .deep),
       (record { type = x .elem; end = c .before .before .before .before .before .before .before .before .before .before .pre .1 .end; stands = x .part }, holds (c .before .four-at .result) (c .before .four-at .ensures) (c .if1 .left) .room),
     ))
-    -- enum-known-i
-    (λ c. search needs)
-    -- struct-starts-requires
-    (λ c κs. search needs)
+    (λ c. search needs) (λ c κs. search needs)
     -- returns-2
     (λ c u z w.
     let a = c .before .before .before .before .before .before .before .before .args in
@@ -258,7 +220,6 @@ pub +each-as+elements-as+members-as+value-as-spec : {M : Type 1} → statement M
     (fails (c .before .struct-starts .result) (c .before .struct-starts .ensures) (c .if2 .taken)))
     -- add-members-as
     (λ c. let w = holds (c .before .struct-starts .result) (c .before .struct-starts .ensures) (c .if2 .left) in record { fits = omega (arith, w .room) })
-    -- add-members-as-2
     (λ c. search needs)
     -- sub-members-as
     (λ c. let a = c .before .before .before .before .before .before .before .before .args in struct-here (c .before .before .before .before .before .before .before .before .pre .1) (c .before .before .before .before .before .head-at .ensures) (c .before .before .before .i .given .1) .deep)

@@ -6,12 +6,12 @@ use borrow.Author.Needs.{needs}
 use lib.ListN.{length}
 use Rattle.meaning.specs.Kinds.{Kind, kindNo}
 use Rattle.meaning.specs.Trees.{Tv}
-use Rattle.ty.specs.Fronts.{Same}
+use Rattle.ty.specs.TypeFronts.{Same}
 use Rattle.ty.proofs.Numbers.{kind-of}
 use Rattle.ty.proofs.Walks.{same-trans}
 use Rattle.inst.specs.Values.{Fits, FitsAll, copies}
-use Rattle.inst.specs.Answers.{Told}
-use Rattle.inst.proofs.Rows.{each-on, each-none, each-end}
+use Rattle.inst.specs.Reading.{Told}
+use Rattle.inst.proofs.ValueRows.{each-on, each-none, each-end}
 use Rattle.inst.proofs.columns.Statement.{statement}
 use Rattle.inst.proofs.columns.Tie as tie
 
@@ -30,20 +30,14 @@ columns-spec =
     (λ c. (c .before .pre .1, λ j p e. ((λ x. x), λ x. x)))
     -- vector-as-requires
     (λ c κs. c .before .before .before .pre .0)
-    -- enum-known-e
-    (λ c. search needs)
-    -- enum-told
-    (λ c. search needs)
+    (λ c. search needs) (λ c. search needs)
     -- returns
     (λ c j p e x.
     let a = c .before .before .before .before .before .before .args in
     let l = c .before .before .before .before .loop in
     each-none (a .s .now) (l .i) (l .left) (Tv (a .r) j) (c .before .before .before .loop-test .taken)
     (subst (Told (Fits (a .s .now) (l .i) (Tv (a .r) j))) (c .enum-told .given .1) (c .before .before .vector-as .ensures j p)) e (l .inv .1 j p e .1 x))
-    -- sub-left
-    (λ c. omega arith)
-    -- loop-less
-    (λ c. omega arith)
+    (λ c. omega arith) (λ c. omega arith)
     -- loop-again
     (λ c.
     let a = c .before .before .before .before .before .before .before .args in

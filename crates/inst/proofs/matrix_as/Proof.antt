@@ -2,8 +2,8 @@
 use native.Mathlib.Omega.{arith}
 use borrow.Author.Needs.{needs}
 use Rattle.meaning.specs.Trees.{Tm}
-use Rattle.inst.proofs.Rows.{told-as, holds, fails}
-use Rattle.inst.proofs.Parts.{partsOf, frontBytes}
+use Rattle.inst.proofs.ValueRows.{told-as, holds, fails}
+use Rattle.inst.proofs.ValueParts.{partsOf, frontBytes}
 use Rattle.inst.proofs.Starts.{fits-starts, parts-same}
 use Rattle.inst.proofs.matrix_as.Statement.{statement}
 use Rattle.inst.proofs.matrix_as.Tie as tie
@@ -13,7 +13,6 @@ unfolding partsOf frontBytes
 matrix-as-spec =
     tie.close
     (tie.spec
-    -- four-at-requires
     (λ c κs. search needs)
     -- returns
     (λ c j p e w. let a = c .before .before .before .args in fails (c .before .four-at .result) (c .before .four-at .ensures) (c .if1 .taken) (fits-starts (a .s .now) (a .at) (Tm (a .c) (a .r) j) tt e w))

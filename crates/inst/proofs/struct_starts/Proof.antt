@@ -3,8 +3,8 @@ use mathlib.Core.List.{[], _∷_}
 use Prim.Native.Nat.{_/_, _%_}
 use native.Mathlib.Omega.{arith}
 use borrow.Author.Needs.{needs}
-use Rattle.inst.proofs.Rows.{holds, fails}
-use Rattle.inst.proofs.Starts.{starts-l, both-decides}
+use Rattle.inst.proofs.ValueRows.{holds, fails}
+use Rattle.record.proofs.Starts.{starts-l, both-decides}
 use Rattle.inst.proofs.struct_starts.Statement.{statement}
 use Rattle.inst.proofs.struct_starts.Tie as tie
 
@@ -12,12 +12,7 @@ pub struct-starts-spec : {M : Type 1} → statement M
 struct-starts-spec =
     tie.close
     (tie.spec
-    -- low-requires
-    (λ c κs. search needs)
-    -- high-requires
-    (λ c κs. search needs)
-    -- four-at-requires
-    (λ c κs. search needs)
+    (λ c κs. search needs) (λ c κs. search needs) (λ c κs. search needs)
     -- returns
     (λ c w.
     let a = c .before .before .before .before .before .args in
@@ -25,12 +20,7 @@ struct-starts-spec =
     (rw (c .before .before .before .low .ensures, c .before .before .high .ensures) (starts-l (a .s .now) (a .at) (86 ∷ 117 ∷ a .i % 256 ∷ a .i / 256 % 256 ∷ []) (a .n % 256 ∷ a .n / 256 % 256 ∷ []) w)))
     -- add-two-at
     (λ c. let w = holds (c .before .four-at .result) (c .before .four-at .ensures) (c .if1 .left) in record { fits = omega (arith, w .room) })
-    -- low-requires-2
-    (λ c κs. search needs)
-    -- high-requires-2
-    (λ c κs. search needs)
-    -- two-at-requires
-    (λ c κs. search needs)
+    (λ c κs. search needs) (λ c κs. search needs) (λ c κs. search needs)
     -- returns-2
     (λ c.
     let a = c .before .before .before .before .before .before .before .before .args in

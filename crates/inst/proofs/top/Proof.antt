@@ -2,7 +2,7 @@
 use Rattle.meaning.specs.Kinds.{kindOf, payloads}
 use Rattle.kind.specs.Ends.{ofKind}
 use Rattle.kind.proofs.Numbers.{over}
-use Rattle.inst.specs.Answers.{most}
+use Rattle.inst.specs.Reading.{most}
 use Rattle.inst.proofs.top.Statement.{statement}
 use Rattle.inst.proofs.top.Tie as tie
 

@@ -5,9 +5,9 @@ use native.Mathlib.Omega.{arith}
 use borrow.Author.Needs.{needs}
 use Rattle.meaning.specs.Trees.{Ts, Tv}
 use Rattle.inst.specs.Values.{FitsAll, copies}
-use Rattle.inst.specs.Answers.{Told}
-use Rattle.inst.proofs.Rows.{told-as, holds, fails}
-use Rattle.inst.proofs.Parts.{partsOf, frontBytes}
+use Rattle.inst.specs.Reading.{Told}
+use Rattle.inst.proofs.ValueRows.{told-as, holds, fails}
+use Rattle.inst.proofs.ValueParts.{partsOf, frontBytes}
 use Rattle.inst.proofs.Starts.{fits-starts, parts-same}
 use Rattle.inst.proofs.vector_as.Statement.{statement}
 use Rattle.inst.proofs.vector_as.Tie as tie
@@ -17,13 +17,11 @@ unfolding partsOf frontBytes
 vector-as-spec =
     tie.close
     (tie.spec
-    -- vector-starts-requires
     (λ c κs. search needs)
     -- returns
     (λ c j p e w. let a = c .before .before .before .args in fails (c .before .vector-starts .result) (c .before .vector-starts .ensures) (c .if1 .taken) (fits-starts (a .s .now) (a .at) (Tv (a .n) j) tt e w))
     -- add-literals
     (λ c. let w = holds (c .before .vector-starts .result) (c .before .vector-starts .ensures) (c .if1 .left) in record { fits = omega (arith, w .room) })
-    -- count-requires
     (λ c κs. search needs)
     -- literals-requires
     (λ c κs. (c .before .before .before .before .pre, holds (c .before .before .vector-starts .result) (c .before .before .vector-starts .ensures) (c .before .if1 .left) .room))

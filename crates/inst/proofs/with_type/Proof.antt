@@ -1,6 +1,6 @@
 -- Each answer with the type's end behind it.
 use borrow.Author.Needs.{needs}
-use Rattle.inst.specs.Answers.{pairOf}
+use Rattle.inst.specs.Reading.{pairOf}
 use Rattle.inst.proofs.with_type.Statement.{statement}
 use Rattle.inst.proofs.with_type.Tie as tie
 
@@ -9,10 +9,7 @@ unfolding pairOf
 with-type-spec =
     tie.close
     (tie.spec
-    -- enum-known-v
-    (λ c. search needs)
-    -- enum-told
-    (λ c. search needs)
+    (λ c. search needs) (λ c. search needs)
     -- returns
     (λ c. rw (c .before .v .given .1))
     -- returns-2

@@ -3,8 +3,8 @@ use borrow.Author.Needs.{needs}
 use mathlib.Core.Path.{sym, _∙_}
 use Rattle.meaning.specs.Kinds.{kindOf}
 use Rattle.meaning.specs.Answers.{no}
-use Rattle.literal.specs.Told.{paper, noCtor}
-use Rattle.literal.proofs.Rules.{a-kind, not-a-kind}
+use Rattle.literal.specs.LiteralAnswers.{paper, noCtor}
+use Rattle.literal.proofs.Tests.{a-kind, not-a-kind}
 use Rattle.literal.proofs.abstract_ctor.Statement.{statement}
 use Rattle.literal.proofs.abstract_ctor.Tie as tie
 

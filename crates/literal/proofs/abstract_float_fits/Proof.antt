@@ -6,8 +6,8 @@ use Rattle.meaning.specs.Kinds.{afloat, kindNo, kindOf, sameKind, kindRank, fro
 use Rattle.meaning.specs.Scalars.{number, conv, convFits, some?}
 use Rattle.kind.specs.Ends.{ofKind}
 use Rattle.kind.proofs.Numbers.{over}
-use Rattle.literal.specs.Told.{convFrom}
-use Rattle.literal.proofs.Rules.{fits-where}
+use Rattle.literal.specs.LiteralAnswers.{convFrom}
+use Rattle.literal.proofs.Tests.{fits-where}
 use Rattle.literal.proofs.abstract_float_fits.Statement.{statement}
 use Rattle.literal.proofs.abstract_float_fits.Tie as tie
 
@@ -16,10 +16,7 @@ unfolding ofKind kindNo kindOf sameKind kindRank fromAfloat some? number conv co
 abstract-float-fits-spec =
     tie.close
     (tie.spec
-    (λ c κs. search needs)
-    (λ c κs. search needs)
-    (λ c κs. search needs)
-    (λ c κs. search needs)
+    (λ c κs. search needs) (λ c κs. search needs) (λ c κs. search needs) (λ c κs. search needs)
     (λ c. rw (c .match .keys1))
     (λ c. rw (c .match .keys2))
     (λ c. rw (c .match .keys3))

@@ -4,8 +4,8 @@ use Rattle.meaning.specs.Kinds.{bool, kindNo, kindOf, sameKind, isAbstract}
 use Rattle.meaning.specs.Scalars.{ctorTest, ctorBits}
 use Rattle.meaning.specs.Build.{ctorLit}
 use Rattle.kind.specs.Ends.{ofKind}
-use Rattle.literal.specs.Told.{paper, ctorFrom, numberOf}
-use Rattle.literal.proofs.Rules.{no-argument}
+use Rattle.literal.specs.LiteralAnswers.{paper, ctorFrom, numberOf}
+use Rattle.literal.proofs.Tests.{no-argument}
 use Rattle.literal.proofs.bool_ctor.Statement.{statement}
 use Rattle.literal.proofs.bool_ctor.Tie as tie
 
@@ -14,12 +14,7 @@ unfolding paper ctorFrom ofKind kindOf isAbstract sameKind kindNo ctorLit ctorTe
 bool-ctor-spec =
     tie.close
     (tie.spec
-    (λ c κs. search needs)
-    (λ c κs. search needs)
-    (λ c κs. search needs)
-    (λ c κs. search needs)
-    (λ c κs. search needs)
-    (λ c κs. search needs)
+    (λ c κs. search needs) (λ c κs. search needs) (λ c κs. search needs) (λ c κs. search needs) (λ c κs. search needs) (λ c κs. search needs)
     (λ c s. rw (c .match .keys1))
     (λ c s. rw (c .truth .ensures, c .before .match .keys2))
     (λ c s. rw (c .truth2 .ensures, c .before .match .keys3))

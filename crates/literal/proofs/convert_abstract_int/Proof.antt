@@ -7,7 +7,7 @@ use Rattle.meaning.specs.Kinds.{aint, kindNo, kindOf, sameKind, kindRank, fromA
 use Rattle.meaning.specs.Scalars.{conv, convFits, convBits, some?}
 use Rattle.kind.specs.Ends.{ofKind, low, high}
 use Rattle.kind.proofs.Numbers.{over}
-use Rattle.literal.specs.Told.{convertedOf, convFrom}
+use Rattle.literal.specs.LiteralAnswers.{convertedOf, convFrom}
 use Rattle.literal.proofs.convert_abstract_int.Statement.{statement}
 use Rattle.literal.proofs.convert_abstract_int.Tie as tie
 
@@ -16,21 +16,16 @@ unfolding ofKind kindNo kindOf sameKind kindRank fromAint some? low high conv co
 convert-abstract-int-spec =
     tie.close
     (tie.spec
-    (λ c κs. search needs)
-    (λ c κs. search needs)
-    (λ c κs. search needs)
+    (λ c κs. search needs) (λ c κs. search needs) (λ c κs. search needs) (λ c κs. search needs)
     (λ c κs. (omega arith, omega arith))
     (λ c κs. search needs)
     (λ c κs. (omega arith, omega arith))
-    (λ c κs. search needs)
-    (λ c κs. search needs)
-    (λ c κs. search needs)
-    (λ c κs. search needs)
+    (λ c κs. search needs) (λ c κs. search needs) (λ c κs. search needs) (λ c κs. search needs)
     (λ c. rw (c .match .keys1))
     (λ c. rw (c .match .keys2))
-    (λ c. rw (c .before .before .match .keys3, c .before .abstract-int-parts .ensures .means) (c .nearest .ensures))
-    (λ c. rw (c .before .before .match .keys4, c .before .abstract-int-parts2 .ensures .means) (c .integer .ensures))
-    (λ c. rw (c .before .before .match .keys5, c .before .abstract-int-parts3 .ensures .means) (c .integer2 .ensures))
-    (λ c. rw (c .before .before .match .keys6, c .before .abstract-int-parts4 .ensures .means) (c .nearest2 .ensures))
-    (λ c. rw (c .before .before .match .keys7, c .before .abstract-int-parts5 .ensures .means) (c .nearest3 .ensures))
-    (λ c. let a = c .before .args in ap convertedOf (over none (λ k. conv k aint (a .bits)) (a .to) (c .match .rest))))
+    (λ c. rw (c .before .before .match .keys3, c .before .before .before .abstract-int-number .ensures, ← c .before .int-to-f64 .ensures) (c .finite .ensures))
+    (λ c. rw (c .before .before .match .keys4, c .before .before .before .abstract-int-number .ensures, c .before .whole-parts .ensures .means) (c .integer .ensures))
+    (λ c. rw (c .before .before .match .keys5, c .before .before .before .abstract-int-number .ensures, c .before .whole-parts2 .ensures .means) (c .integer2 .ensures))
+    (λ c. rw (c .before .before .match .keys6, c .before .before .before .abstract-int-number .ensures, ← c .before .int-to-f32 .ensures .0) (c .finite2 .ensures))
+    (λ c. rw (c .before .before .match .keys7, c .before .before .before .abstract-int-number .ensures, ← c .before .int-to-f16 .ensures .0) (c .finite3 .ensures))
+    (λ c. let a = c .before .before .args in ap convertedOf (over none (λ k. conv k aint (a .bits)) (a .to) (c .match .rest))))

@@ -5,8 +5,8 @@ use mathlib.Core.Option.{none}
 use Rattle.meaning.specs.Kinds.{bool, i32, u32, f32, f16, kindNo, kindOf, kindRank}
 use Rattle.kind.specs.Ends.{ofKind}
 use Rattle.kind.proofs.Numbers.{over}
-use Rattle.literal.specs.Told.{convertedOf, convFrom, convBetween}
-use Rattle.literal.proofs.Rules.{kept}
+use Rattle.literal.specs.LiteralAnswers.{convertedOf, convFrom, convBetween}
+use Rattle.literal.proofs.Tests.{kept}
 use Rattle.literal.proofs.convert_literal.Statement.{statement}
 use Rattle.literal.proofs.convert_literal.Tie as tie
 
@@ -15,12 +15,7 @@ unfolding convBetween convFrom ofKind kindOf kindRank kindNo convertedOf
 convert-literal-spec =
     tie.close
     (tie.spec
-    (λ c κs. search needs)
-    (λ c κs. search needs)
-    (λ c κs. search needs)
-    (λ c κs. search needs)
-    (λ c κs. search needs)
-    (λ c κs. search needs)
+    (λ c κs. search needs) (λ c κs. search needs) (λ c κs. search needs) (λ c κs. search needs) (λ c κs. search needs) (λ c κs. search needs)
     (λ c κs. search needs)
     (λ c. let a = c .before .before .args in c .convert-same .ensures ∙ ap convertedOf (kept bool (λ k. refl) (a .to) (a .from) (a .bits) (c .before .match .keys1)))
     (λ c. rw (c .before .match .keys2) (c .convert-abstract-int .ensures))

@@ -1,6 +1,6 @@
 -- `literal::convert_same` meets its contract: the test is that of the definition.
 use borrow.Author.Tests.{eq-eqb, ne-eqb}
-use Rattle.literal.specs.Told.{convertedOf}
+use Rattle.literal.specs.LiteralAnswers.{convertedOf}
 use Rattle.literal.proofs.convert_same.Statement.{statement}
 use Rattle.literal.proofs.convert_same.Tie as tie
 

@@ -2,8 +2,8 @@
 use borrow.Author.Needs.{needs}
 use mathlib.Core.Path.{sym, _∙_}
 use Rattle.float.specs.Taken.{meaning}
-use Rattle.literal.specs.Told.{inRange, heldIn, paper}
-use Rattle.literal.proofs.Rules.{fits, unfit}
+use Rattle.literal.specs.LiteralAnswers.{inRange, heldIn, paper}
+use Rattle.literal.proofs.Tests.{fits, unfit}
 use Rattle.literal.proofs.fitting.Statement.{statement}
 use Rattle.literal.proofs.fitting.Tie as tie
 
@@ -27,9 +27,4 @@ pub fitting-spec : {M : Type 1} → statement M
 fitting-spec =
     tie.close
     (tie.spec
-    (λ c κs. search needs)
-    (λ c κs. search needs)
-    (λ c. search needs)
-    (λ c. search needs)
-    returns
-    returns-2)
+    (λ c κs. search needs) (λ c κs. search needs) (λ c. search needs) (λ c. search needs) returns returns-2)

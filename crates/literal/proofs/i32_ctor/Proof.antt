@@ -6,8 +6,8 @@ use Rattle.meaning.specs.Floats.{largest}
 use Rattle.meaning.specs.Scalars.{ctorTest, ctorBits, keepsBits, hiOf, loOf}
 use Rattle.meaning.specs.Build.{ctorLit}
 use Rattle.kind.specs.Ends.{ofKind, low, high}
-use Rattle.literal.specs.Told.{paper, ctorFrom, numberOf}
-use Rattle.literal.proofs.Rules.{no-argument}
+use Rattle.literal.specs.LiteralAnswers.{paper, ctorFrom, numberOf}
+use Rattle.literal.proofs.Tests.{no-argument}
 use Rattle.literal.proofs.i32_ctor.Statement.{statement}
 use Rattle.literal.proofs.i32_ctor.Tie as tie
 

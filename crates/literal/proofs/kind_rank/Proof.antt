@@ -5,8 +5,8 @@ use mathlib.Core.Option.{none}
 use Rattle.meaning.specs.Kinds.{bool, i32, u32, f32, f16, kindNo, kindOf, kindRank}
 use Rattle.kind.specs.Ends.{ofKind}
 use Rattle.kind.proofs.Numbers.{over}
-use Rattle.literal.specs.Told.{rankOf, rankBetween}
-use Rattle.literal.proofs.Rules.{of-same}
+use Rattle.literal.specs.LiteralAnswers.{rankOf, rankBetween}
+use Rattle.literal.proofs.Tests.{of-same}
 use Rattle.literal.proofs.kind_rank.Statement.{statement}
 use Rattle.literal.proofs.kind_rank.Tie as tie
 
@@ -15,12 +15,7 @@ unfolding rankBetween ofKind kindOf kindRank kindNo rankOf
 kind-rank-spec =
     tie.close
     (tie.spec
-    (λ c κs. search needs)
-    (λ c κs. search needs)
-    (λ c κs. search needs)
-    (λ c κs. search needs)
-    (λ c κs. search needs)
-    (λ c κs. search needs)
+    (λ c κs. search needs) (λ c κs. search needs) (λ c κs. search needs) (λ c κs. search needs) (λ c κs. search needs) (λ c κs. search needs)
     (λ c κs. search needs)
     (λ c. rw (c .before .match .keys1) (rw (c .before .match .keys1) at (c .rank-of-same .ensures) ∙ ap rankOf (of-same bool (c .before .before .args .to))))
     (λ c. rw (c .before .match .keys2) (c .rank-of-abstract-int .ensures))

@@ -6,8 +6,8 @@ use Rattle.meaning.specs.Kinds.{bool, i32, u32, f32, f16, kindNo, kindOf, kindR
 use Rattle.meaning.specs.Scalars.{some?}
 use Rattle.kind.specs.Ends.{ofKind}
 use Rattle.kind.proofs.Numbers.{over}
-use Rattle.literal.specs.Told.{convFrom, convBetween}
-use Rattle.literal.proofs.Rules.{kept-fits}
+use Rattle.literal.specs.LiteralAnswers.{convFrom, convBetween}
+use Rattle.literal.proofs.Tests.{kept-fits}
 use Rattle.literal.proofs.literal_fits.Statement.{statement}
 use Rattle.literal.proofs.literal_fits.Tie as tie
 
@@ -16,8 +16,7 @@ unfolding convBetween convFrom ofKind kindOf kindRank kindNo some?
 literal-fits-spec =
     tie.close
     (tie.spec
-    (λ c κs. search needs)
-    (λ c κs. search needs)
+    (λ c κs. search needs) (λ c κs. search needs)
     (λ c. let a = c .before .args in kept-fits bool (λ k. refl) (a .to) (a .from) (a .bits) (c .match .keys1))
     (λ c. rw (c .before .match .keys2) (c .abstract-int-fits .ensures))
     (λ c. rw (c .before .match .keys3) (c .abstract-float-fits .ensures))

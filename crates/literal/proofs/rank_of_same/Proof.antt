@@ -1,6 +1,6 @@
 -- `literal::rank_of_same` meets its contract: the test is that of the definition.
 use borrow.Author.Tests.{eq-eqb, ne-eqb}
-use Rattle.literal.specs.Told.{rankOf}
+use Rattle.literal.specs.LiteralAnswers.{rankOf}
 use Rattle.literal.proofs.rank_of_same.Statement.{statement}
 use Rattle.literal.proofs.rank_of_same.Tie as tie
 

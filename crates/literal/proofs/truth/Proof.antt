@@ -7,7 +7,6 @@ pub truth-spec : {M : Type 1} → statement M
 truth-spec =
     tie.close
     (tie.spec
-    (λ c κs. search needs)
-    (λ c κs. search needs)
+    (λ c κs. search needs) (λ c κs. search needs)
     (λ c. rw (c .before .before .parts-of .ensures .means, ← c .before .nonzero .ensures, c .if1 .taken))
     (λ c. rw (c .before .before .parts-of .ensures .means, ← c .before .nonzero .ensures, c .if1 .left)))

@@ -5,8 +5,8 @@ use Rattle.meaning.specs.Kinds.{u32, kindNo, kindOf, sameKind, isAbstract}
 use Rattle.meaning.specs.Scalars.{ctorTest, ctorBits, keepsBits, hiOf}
 use Rattle.meaning.specs.Build.{ctorLit}
 use Rattle.kind.specs.Ends.{ofKind, low, high}
-use Rattle.literal.specs.Told.{paper, ctorFrom, numberOf}
-use Rattle.literal.proofs.Rules.{no-argument}
+use Rattle.literal.specs.LiteralAnswers.{paper, ctorFrom, numberOf}
+use Rattle.literal.proofs.Tests.{no-argument}
 use Rattle.literal.proofs.u32_ctor.Statement.{statement}
 use Rattle.literal.proofs.u32_ctor.Tie as tie
 
@@ -18,8 +18,7 @@ u32-ctor-spec =
     (λ c κs. (omega arith, omega arith))
     (λ c κs. (omega arith, omega arith))
     (λ c κs. (omega arith, omega arith))
-    (λ c κs. search needs)
-    (λ c κs. search needs)
+    (λ c κs. search needs) (λ c κs. search needs)
     (λ c s. rw (c .held-in .ensures, c .before .match .keys1))
     (λ c s. rw (c .fitting .ensures, c .before .match .keys2))
     (λ c s. rw (c .held-in2 .ensures, c .before .match .keys3))

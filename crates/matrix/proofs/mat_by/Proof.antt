@@ -1,9 +1,10 @@
 -- Whether the first one's kind converts decides; then the arguments go to the type with the target's kind.
 use borrow.Author.Needs.{needs}
 use borrow.Author.Tests.{not-true, not-false}
-use Rattle.call.proofs.Answers.{builds-no}
-use Rattle.matrix.proofs.Downs.{float-no, kind-stays, kind-goes}
-use Rattle.matrix.proofs.Parts.{mat-no, mat-asked, mat-made}
+use Rattle.error.proofs.BufferAtExit.{builds-no}
+use Rattle.shape.proofs.Downs.{kind-stays, kind-goes}
+use Rattle.matrix.proofs.Downs.{float-no}
+use Rattle.matrix.proofs.MatrixParts.{mat-no, mat-asked, mat-made}
 use Rattle.matrix.proofs.mat_by.Statement.{statement}
 use Rattle.matrix.proofs.mat_by.Tie as tie
 
@@ -11,7 +12,6 @@ pub mat-by-spec : {M : Type 1} → statement M
 mat-by-spec =
     tie.close
     (tie.spec
-    -- kind-converts-requires
     (λ c κs. search needs)
     -- returns
     (λ c j v l n w h.
@@ -25,7 +25,6 @@ mat-by-spec =
     let k = float-no _ (p .0) in
     let d = kind-goes (k .0) (k .1) _ (f .down _ _ (g .row)) (c .before .before .kind-converts .ensures) (not-false (c .before .before .kind-converts .result) (c .before .if1 .left)) in
     mat-asked (g .row) (k .0) (k .1) (g .size) d (f .stands (k .0) _ _ (k .1) (g .row)))
-    -- same-length
     (λ c. search needs)
     -- returns-2
     (λ c j v l n w h.

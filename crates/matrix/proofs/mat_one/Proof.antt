@@ -3,11 +3,10 @@ use mathlib.Core.Path.{sym, refl, _∙_}
 use mathlib.Core.List.{[]}
 use borrow.Author.Needs.{needs}
 use borrow.Author.Tests.{not-true, not-false}
-use Rattle.call.proofs.Answers.{builds-as, builds-no}
-use Rattle.made.proofs.Ones.{abstract-is, concrete}
+use Rattle.error.proofs.BufferAtExit.{builds-as, builds-no}
+use Rattle.scalar.proofs.OneLiteral.{abstract-is, concrete}
 use Rattle.matrix.proofs.Downs.{float-no}
-use Rattle.call.proofs.Answers.{stage-is}
-use Rattle.matrix.proofs.Ones.{one-mark, mat-other, matrix-is, mat-unequal, equal-row, mat-abstract, mat-concrete}
+use Rattle.matrix.proofs.OneToMatrix.{one-mark, mat-other, matrix-is, mat-unequal, equal-row, mat-abstract, mat-concrete}
 use Rattle.matrix.proofs.mat_one.Statement.{statement}
 use Rattle.matrix.proofs.mat_one.Tie as tie
 
@@ -16,10 +15,9 @@ mat-one-spec =
     tie.close
     (tie.spec
     -- shared-slice-read-if1
-    (λ c. one-mark (c .before .before .before .pre .1 .row))
+    (λ c. search one-mark)
     -- mat-parts-requires
     (λ c κs. let p = c .before .before .before .before .before .pre in ((p .0 .0, p .0 .1, p .0 .2), record { value = _; others = []; row = p .1 .row; size = refl }))
-    -- same-length
     (λ c. search needs)
     -- returns
     (λ c s j v a n x. builds-as (c .before .before .before .before .before .before .before .before .args .out .now) (mat-other x _ _ (c .before .before .before .before .if1 .taken) s j) (c .before .before .mat-parts .ensures j v [] n x refl))
@@ -27,7 +25,6 @@ mat-one-spec =
     (λ c κs. matrix-is (c .before .before .before .before .pre .1 .row) (c .if1 .left) .room)
     -- returns-2
     (λ c s j v a n x. builds-no (c .before .before .before .before .before .before .args .out .now) 7 (mat-unequal x (c .before .before .if1 .left) _ _ (sym (c .before .same-size .ensures) ∙ not-true (c .before .same-size .result) (c .if2 .taken)) s j))
-    -- is-abstract-requires
     (λ c κs. search needs)
     -- returns-3
     (λ c s j v a n x.
@@ -37,15 +34,13 @@ mat-one-spec =
     let p = c .before .before .before .before .before .before .before .before .before .pre in
     let e = sym (c .before .before .before .before .same-size .ensures) ∙ not-false (c .before .before .before .before .same-size .result) (c .before .before .before .if2 .left) in
     let k = float-no _ (p .0 .2) in
-    let s = stage-is _ (p .0 .3) in
     record {
-      at = s .0;
+      at = p .0 .3 .stage;
       kind = k .0;
       from = _;
       pays = _;
-      arg = record { staged = s .1; no = k .1; concrete = concrete (k .0) (k .1) (c .before .before .is-abstract .ensures) (c .before .if3 .left); row = equal-row (p .1 .row) (c .before .before .before .before .before .if1 .left) _ _ e };
+      arg = record { ctor = record { ruled = p .0 .3 .ruled; no = k .1; concrete = concrete (k .0) (k .1) (c .before .before .is-abstract .ensures) (c .before .if3 .left) }; row = equal-row (p .1 .row) (c .before .before .before .before .before .if1 .left) _ _ e };
     })
-    -- same-length-2
     (λ c. search needs)
     -- returns-4
     (λ c s j v a n x.
@@ -53,4 +48,4 @@ mat-one-spec =
     let e = sym (c .before .before .before .before .before .before .before .same-size .ensures) ∙ not-false (c .before .before .before .before .before .before .before .same-size .result) (c .before .before .before .before .before .before .if2 .left) in
     let b = c .before .before .before .before .before .is-abstract .ensures in
     builds-as (c .before .before .before .before .before .before .before .before .before .before .before .before .args .out .now) (mat-concrete x h _ _ e s j (sym (abstract-is j n b) ∙ c .before .before .before .before .if3 .left))
-    (c .before .before .mat-made .ensures s j _ _ record { staged = a; no = n; concrete = concrete j n b (c .before .before .before .before .if3 .left); row = equal-row x h _ _ e })))
+    (c .before .before .mat-made .ensures s j _ _ record { ctor = record { ruled = a; no = n; concrete = concrete j n b (c .before .before .before .before .if3 .left) }; row = equal-row x h _ _ e })))

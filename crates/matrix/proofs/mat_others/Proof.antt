@@ -3,9 +3,10 @@ use mathlib.Core.Path.{sym, _∙_}
 use native.Mathlib.Omega.{arith}
 use borrow.Author.Needs.{needs}
 use borrow.Author.Tests.{not-true, not-false}
-use Rattle.call.proofs.Answers.{builds-no}
-use Rattle.matrix.proofs.Downs.{float-no, goes-no, goes-to, type-some}
-use Rattle.matrix.proofs.Parts.{mat-no, type-set, mat-asked, mat-made}
+use Rattle.error.proofs.BufferAtExit.{builds-no}
+use Rattle.shape.proofs.Downs.{goes-no, goes-to}
+use Rattle.matrix.proofs.Downs.{float-no, type-some}
+use Rattle.matrix.proofs.MatrixParts.{mat-no, type-set, mat-asked, mat-made}
 use Rattle.matrix.proofs.mat_others.Statement.{statement}
 use Rattle.matrix.proofs.mat_others.Tie as tie
 
@@ -13,11 +14,9 @@ pub mat-others-spec : {M : Type 1} → statement M
 mat-others-spec =
     tie.close
     (tie.spec
-    -- slice-aggregate-next-type
     (λ c. search needs)
     -- next-type-requires
     (λ c κs. let p = c .before .before .before .pre .1 in (record { value = p .value; others = p .others; row = p .row }, search needs))
-    -- slice-aggregate-goes-down
     (λ c. search needs)
     -- goes-down-requires
     (λ c κs. let p = c .before .before .before .before .before .before .pre .1 in record { type = _; end = _; stands = c .before .before .next-type .ensures (p .value) (p .others) (p .row) .stands })
@@ -27,7 +26,6 @@ mat-others-spec =
     (λ c. let p = c .before .before .before .before .before .before .before .before .before .pre .1 in omega (arith, type-some (c .before .before .before .before .before .next-type .ensures (p .value) (p .others) (p .row) .stands)))
     -- array-write-ty
     (λ c. let p = c .before .before .before .before .before .before .before .before .before .pre .1 in let t = c .before .before .before .before .before .next-type .ensures (p .value) (p .others) (p .row) .stands in omega (arith, type-some t, t .within))
-    -- slice-aggregate-mat-to
     (λ c. search needs)
     -- mat-to-requires
     (λ c κs.
@@ -37,7 +35,6 @@ mat-others-spec =
     let t = c .before .before .before .before .before .before .before .next-type .ensures (g .value) (g .others) (g .row) .stands in
     let d = goes-to (k .0) _ (sym (not-false (c .before .before .before .before .goes-down .result) (c .before .before .before .if1 .left)) ∙ c .before .before .before .before .goes-down .ensures (k .0) _ _ (k .1) t) in
     mat-asked (g .row) (k .0) (k .1) (g .size) d (type-set (k .0) (k .1) (p .0) d t))
-    -- same-length
     (λ c. search needs)
     -- returns-2
     (λ c j v l n w h.

@@ -3,8 +3,8 @@ use mathlib.Core.Path.{sym, _∙_}
 use native.Mathlib.Omega.{arith}
 use borrow.Author.Needs.{needs}
 use borrow.Author.Tests.{not-true, not-false}
-use Rattle.call.proofs.Answers.{builds-as, builds-no}
-use Rattle.matrix.proofs.Parts.{to-asked, to-no, to-becoming, to-made}
+use Rattle.error.proofs.BufferAtExit.{builds-as, builds-no}
+use Rattle.matrix.proofs.MatrixParts.{to-asked, to-no, to-becoming, to-made}
 use Rattle.matrix.proofs.mat_to.Statement.{statement}
 use Rattle.matrix.proofs.mat_to.Tie as tie
 
@@ -21,7 +21,6 @@ mat-to-spec =
     let x = c .before .before .before .before .before .before .pre .to in
     let y = to-becoming x (sym (not-false (c .before .before .all-convert .result) (c .before .if1 .left)) ∙ c .before .before .all-convert .ensures _ _ _ (x .row) (x .stands)) in
     record { kind = _; type = _; values = _; intos = y .intos; parts = y .parts })
-    -- same-length
     (λ c. search needs)
     -- returns-2
     (λ c j u l x.

@@ -10,11 +10,9 @@ unfolding sameSize
 same-size-spec =
     tie.close
     (tie.spec
-    -- shared-slice-read-if1
     (λ c. search needs)
     -- returns
     (λ c. rw (ne-eqb _ _ (c .if1 .taken)))
-    -- shared-slice-read-result
     (λ c. search needs)
     -- returns-2
     (λ c. rw (eq-eqb _ _ (c .before .if1 .left))))

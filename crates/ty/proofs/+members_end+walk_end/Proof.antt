@@ -6,7 +6,7 @@ use native.Mathlib.Omega.{arith}
 use borrow.Author.Needs.{needs}
 use lib.ListN.{length}
 use Rattle.ty.specs.Stands.{Ends, EndAll}
-use Rattle.ty.specs.Fronts.{Told, Same, Parted, Fronted}
+use Rattle.ty.specs.TypeFronts.{Told, Same, Parted, Fronted}
 use Rattle.meaning.specs.Trees.{[·]}
 use Rattle.ty.specs.declared.Front.{Front}
 use Rattle.ty.specs.declared.Front.the-variants.{Array, Struct}
@@ -68,20 +68,14 @@ pub +members-end+walk-end-spec : {M : Type 1} → statement M
     (λ c. (c .before .pre .1, λ e. ((λ x. x), λ x. x)))
     -- walk-end-requires
     (λ c κs. (omega (arith, c .before .before .before .pre .0), tt))
-    -- enum-known-e
-    (λ c. search needs)
-    -- enum-told
-    (λ c. search needs)
+    (λ c. search needs) (λ c. search needs)
     -- returns
     (λ c e w.
     let a = c .before .before .before .before .before .before .args in
     let l = c .before .before .before .before .loop in
     none-on (c .before .before .before .loop-test .taken)
     (subst (Told (Ends (a .depth) (a .s .now) (l .i))) (c .enum-told .given .1) (c .before .before .walk-end .ensures)) e (l .inv .1 e .1 w))
-    -- sub-left
-    (λ c. omega arith)
-    -- loop-less
-    (λ c. omega arith)
+    (λ c. omega arith) (λ c. omega arith)
     -- loop-again
     (λ c.
     let a = c .before .before .before .before .before .before .before .args in
@@ -96,12 +90,7 @@ pub +members-end+walk-end-spec : {M : Type 1} → statement M
     l .inv .1 (l .i) .0 record { types = [·]; stands = rw z (nil-stands (l .i) (l .inv .0)) }))
     (λ t.
     walk-end-lts.spec (front-at-reads.Asked, front-at-reads.Learnt, walk-end-below t, walk-end.Post, members-end-below t, members-end.Post) (walk-end-at t) walk-end.Post
-    -- front-at-requires
-    (λ c κs. search needs)
-    -- enum-known-e
-    (λ c. search needs)
-    -- enum-told
-    (λ c. search needs)
+    (λ c κs. search needs) (λ c. search needs) (λ c. search needs)
     -- add-walk-end
     (λ c.
     let a = c .before .before .before .before .args in
@@ -117,7 +106,6 @@ pub +members-end+walk-end-spec : {M : Type 1} → statement M
     let a = c .before .before .before .before .args in
     let p = array (a .depth) (a .s .now) (a .at) (c .enum-told .given .1) (c .before .before .front-at .ensures) in
     (omega (arith, c .before .before .before .before .pre .0, p .deep), tt))
-    -- enum-known-n
     (λ c. search needs)
     -- add-members-end
     (λ c.
@@ -134,7 +122,6 @@ pub +members-end+walk-end-spec : {M : Type 1} → statement M
     let a = c .before .before .before .before .before .args in
     let p = struct (a .depth) (a .s .now) (a .at) (c .before .n .given .1) (c .before .before .before .front-at .ensures) in
     (omega (arith, c .before .before .before .before .before .pre .0, p .deep), p .room))
-    -- enum-told-2
     (λ c. search needs)
     -- returns
     (λ c.

@@ -17,7 +17,7 @@ use Rattle.ty.proofs.walk_len.Kinds as walk-len-kinds
 use Rattle.ty.proofs.+members_len+walk_len.Lts-walk_len as walk-len-lts
 use Rattle.ty.proofs.array_len.Reads as array-len-reads
 use Rattle.ty.proofs.head_at.Reads as head-at-reads
-use Rattle.ty.proofs.literal_len.Reads as literal-len-reads
+use Rattle.record.proofs.literal_len.Reads as literal-len-reads
 use Rattle.ty.proofs.matrix_len.Reads as matrix-len-reads
 use Rattle.ty.proofs.vector_len.Reads as vector-len-reads
 use Rattle.ty.proofs.+members_len+walk_len.{statement}
@@ -62,7 +62,6 @@ pub +members-len+walk-len-spec : {M : Type 1} → statement M
     let l = c .before .loop in
     let p = c .before .before .before .pre .1 in
     (omega (arith, c .before .before .before .pre .0), left-first (l .inv .1 (p .types) (p .end) (p .stands)) (c .loop-test .taken)))
-    -- enum-known-e
     (λ c. search needs)
     -- sub-if1
     (λ c. omega (arith, c .before .before .before .before .before .loop .inv .0))
@@ -73,17 +72,13 @@ pub +members-len+walk-len-spec : {M : Type 1} → statement M
     (c .before .before .e .given .1) (c .if1 .taken))
     -- add-sum
     (λ c. record { fits = omega (arith, c .if1 .left) })
-    -- enum-told
     (λ c. search needs)
     -- returns-2
     (λ c m e w.
     let l = c .before .before .before .before .loop in
     left-long (l .inv .1 m e w) (c .before .before .before .loop-test .taken) (c .before .before .walk-len .ensures)
     (c .enum-told .given .1))
-    -- sub-left
-    (λ c. omega arith)
-    -- loop-less
-    (λ c. omega arith)
+    (λ c. omega arith) (λ c. omega arith)
     -- loop-again
     (λ c. (
       omega (arith, c .if1 .left),
@@ -102,28 +97,11 @@ pub +members-len+walk-len-spec : {M : Type 1} → statement M
     (walk-len-at t) walk-len.Post
     -- head-at-requires
     (λ c κs. c .before .pre .1)
-    -- enum-known-k
     (λ c. search needs)
     -- add-t14
     (λ c. record { fits = omega (arith, any-front (c .before .before .before .before .before .pre .1 .stands)) })
-    -- literal-len-requires
-    (λ c κs. search needs)
-    -- enum-known-n
-    (λ c. search needs)
-    -- add-t16
-    (λ c. omega arith)
-    -- vector-len-requires
-    (λ c κs. search needs)
-    -- enum-known-c
-    (λ c. search needs)
-    -- add-t18
-    (λ c. omega arith)
-    -- matrix-len-requires
-    (λ c κs. search needs)
-    -- enum-known-n-2
-    (λ c. search needs)
-    -- add-walk-len
-    (λ c. omega arith)
+    (λ c κs. search needs) (λ c. search needs) (λ c. omega arith) (λ c κs. search needs) (λ c. search needs) (λ c. omega arith) (λ c κs. search needs)
+    (λ c. search needs) (λ c. omega arith)
     -- sub-walk-len
     (λ c. let x = array-here (c .before .before .before .before .before .pre .1) (c .before .before .before .head-at .ensures) (c .before .n2 .given .1) in x .deep)
     -- walk-len-requires
@@ -135,10 +113,7 @@ pub +members-len+walk-len-spec : {M : Type 1} → statement M
     let x = array-here (c .before .before .before .before .before .before .pre .1) (c .before .before .before .before .head-at .ensures)
     (c .before .before .n2 .given .1) in
     x .some)
-    -- enum-known-n-3
-    (λ c. search needs)
-    -- add-members-len
-    (λ c. omega arith)
+    (λ c. search needs) (λ c. omega arith)
     -- sub-members-len
     (λ c. let x = struct-here (c .before .before .before .before .before .pre .1) (c .before .before .before .head-at .ensures) (c .before .n3 .given .1) in x .deep)
     -- members-len-requires

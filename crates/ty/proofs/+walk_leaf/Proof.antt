@@ -30,23 +30,13 @@ pub +walk-leaf-spec : {M : Type 1} → statement M
     walk-leaf-lts.spec (head-at-reads.Asked, head-at-reads.Learnt, walk-leaf-below t, walk-leaf.Post) (walk-leaf-at t) walk-leaf.Post
     -- head-at-requires
     (λ c κs. c .before .pre .1)
-    -- enum-known-k
-    (λ c. search needs)
-    -- enum-known-k-2
-    (λ c. search needs)
-    -- enum-known-k-3
-    (λ c. search needs)
-    -- enum-told
-    (λ c. search needs)
-    -- add-walk-leaf
-    (λ c. omega arith)
+    (λ c. search needs) (λ c. search needs) (λ c. search needs) (λ c. search needs) (λ c. omega arith)
     -- sub-walk-leaf
     (λ c. let x = array-here (c .before .before .before .before .pre .1) (c .before .before .head-at .ensures) (c .enum-told .given .1) in x .deep)
     -- walk-leaf-requires
     (λ c κs.
     let x = array-here (c .before .before .before .before .pre .1) (c .before .before .head-at .ensures) (c .enum-told .given .1) in
     (omega (arith, c .before .before .before .before .pre .0, x .deep), record { type = x .elem; end = c .before .before .before .before .pre .1 .end; stands = x .part }))
-    -- enum-told-2
     (λ c. search needs)
     -- returns
     (λ c t′ e w. scalar-leaf w (sym (c .before .k .given .1) ∙ c .before .before .before .head-at .ensures t′ e w))

@@ -2,17 +2,14 @@
 use borrow.Author.Needs.{needs}
 use native.Mathlib.Omega.{arith}
 use mathlib.Core.Path.{refl, sym, ap, _∙_}
-use Prim.Native.Nat.{ℕ, _+_, _*_, _-_}
+use Prim.Native.Nat.{ℕ, _+_, _*_}
 use Rattle.ty.proofs.Lens.{is-len, long-len, len-is, len-long, times-fits, times-long, times-more}
 use Rattle.ty.proofs.array_len.Statement.{statement}
 use Rattle.ty.proofs.array_len.Tie as tie
 
 pub array-len-spec : {M : Type 1} → statement M
 array-len-spec = tie.close (tie.spec
-    -- enum-known-l
-    (λ c. search needs)
-    -- div-if1
-    (λ c. search needs)
+    (λ c. search needs) (λ c. search needs)
     -- returns
     (λ c e m h.
     let a = c .before .before .before .before .args in
@@ -26,7 +23,6 @@ array-len-spec = tie.close (tie.spec
     -- add-t9
     (λ c.
     record { fits = omega (arith, times-fits _ (c .before .before .before .before .pre) (c .if1 .left)) })
-    -- enum-told
     (λ c. search needs)
     -- returns-2
     (λ c e m h.

@@ -9,21 +9,17 @@ pub head-at-spec : {M : Type 1} → statement M
 head-at-spec =
     tie.close
     (tie.spec
-    -- add-mark
     (λ c. omega arith)
     -- shared-slice-read-mark
     (λ c. omega (arith, any-front (c .before .before .pre .stands)))
-    -- add-t9
     (λ c. omega arith)
     -- shared-slice-read-t11
     (λ c. let w = c .before .before .before .before .pre .stands in let x = scalar-by w (c .before .if1 .taken) in omega (arith, x .end, w .within))
     -- returns
     (λ c t e w. scalar-head (scalar-by w (c .before .if1 .taken)))
-    -- add-t12
     (λ c. omega arith)
     -- shared-slice-read-t14
     (λ c. let w = c .before .before .before .before .before .pre .stands in let x = vector-by w (c .before .if2 .taken) in omega (arith, x .end, w .within))
-    -- add-t15
     (λ c. omega arith)
     -- shared-slice-read-t17
     (λ c.
@@ -32,18 +28,15 @@ head-at-spec =
     omega (arith, x .end, w .within))
     -- returns-2
     (λ c t e w. vector-head (vector-by w (c .before .before .if2 .taken)))
-    -- add-t18
     (λ c. omega arith)
     -- shared-slice-read-t20
     (λ c. let w = c .before .before .before .before .before .before .pre .stands in let x = matrix-by w (c .before .if3 .taken) in omega (arith, x .end, w .within))
-    -- add-t21
     (λ c. omega arith)
     -- shared-slice-read-t23
     (λ c.
     let w = c .before .before .before .before .before .before .before .pre .stands in
     let x = matrix-by w (c .before .before .if3 .taken) in
     omega (arith, x .end, w .within))
-    -- add-t24
     (λ c. omega arith)
     -- shared-slice-read-t26
     (λ c.
@@ -52,25 +45,21 @@ head-at-spec =
     omega (arith, x .end, w .within))
     -- returns-3
     (λ c t e w. matrix-head (matrix-by w (c .before .before .before .if3 .taken)))
-    -- add-join
     (λ c. omega arith)
     -- shared-slice-read-join
     (λ c.
     let w = c .before .before .before .before .before .before .before .pre .stands in
     let x = array-by w (c .before .if4 .taken) in
     omega (arith, x .room, w .within))
-    -- add-join-2
     (λ c. omega arith)
     -- shared-slice-read-join-2
     (λ c.
     let w = c .before .before .before .before .before .before .before .before .pre .stands in
     let x = array-by w (c .before .before .if4 .taken) in
     omega (arith, x .room, w .within))
-    -- join-requires
     (λ c κs. search needs)
     -- returns-4
     (λ c t e w. rw (c .join .ensures) (array-head (array-by w (c .before .before .before .if4 .taken))))
-    -- add-join-3
     (λ c. omega arith)
     -- shared-slice-read-join-3
     (λ c.
@@ -78,7 +67,6 @@ head-at-spec =
     let x = struct-by w
     (last-mark w (c .before .before .before .before .if1 .left) (c .before .before .before .if2 .left) (c .before .before .if3 .left) (c .before .if4 .left)) in
     omega (arith, x .room, w .within))
-    -- add-join-4
     (λ c. omega arith)
     -- shared-slice-read-join-4
     (λ c.
@@ -86,17 +74,13 @@ head-at-spec =
     let x = struct-by w
     (last-mark w (c .before .before .before .before .before .if1 .left) (c .before .before .before .before .if2 .left) (c .before .before .before .if3 .left) (c .before .before .if4 .left)) in
     omega (arith, x .room, w .within))
-    -- join-requires-2
-    (λ c κs. search needs)
-    -- add-join-5
-    (λ c. omega arith)
+    (λ c κs. search needs) (λ c. omega arith)
     -- shared-slice-read-join-5
     (λ c.
     let w = c .before .before .before .before .before .before .before .before .before .before .pre .stands in
     let x = struct-by w
     (last-mark w (c .before .before .before .before .before .before .before .if1 .left) (c .before .before .before .before .before .before .if2 .left) (c .before .before .before .before .before .if3 .left) (c .before .before .before .before .if4 .left)) in
     omega (arith, x .room, w .within))
-    -- add-join-6
     (λ c. omega arith)
     -- shared-slice-read-join-6
     (λ c.
@@ -104,7 +88,6 @@ head-at-spec =
     let x = struct-by w
     (last-mark w (c .before .before .before .before .before .before .before .before .if1 .left) (c .before .before .before .before .before .before .before .if2 .left) (c .before .before .before .before .before .before .if3 .left) (c .before .before .before .before .before .if4 .left)) in
     omega (arith, x .room, w .within))
-    -- join-requires-3
     (λ c κs. search needs)
     -- returns-5
     (λ c t e w.

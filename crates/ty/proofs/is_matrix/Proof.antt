@@ -1,7 +1,7 @@
 -- What is left after the tests of the mark, the sides and the float kind is the scalar's.
 use native.Mathlib.Omega.{arith}
 use borrow.Author.Needs.{needs}
-use Rattle.ty.proofs.Numbers.{known, unknown, decides-as}
+use Rattle.record.proofs.Starts.{known, unknown, decides-as}
 use Rattle.ty.proofs.is_matrix.Statement.{statement}
 use Rattle.ty.proofs.is_matrix.Tie as tie
 
@@ -9,50 +9,17 @@ pub is-matrix-spec : {M : Type 1} → statement M
 is-matrix-spec =
     tie.close
     (tie.spec
-    -- returns
-    (λ c. search needs)
-    -- room-requires
-    (λ c κs. search needs)
-    -- returns-2
-    (λ c. search needs)
-    -- shared-slice-read-if3
-    (λ c. omega arith)
-    -- returns-3
-    (λ c. search needs)
-    -- add-if4
-    (λ c. omega arith)
-    -- shared-slice-read-if4
-    (λ c. omega arith)
-    -- returns-4
-    (λ c. search needs)
-    -- add-is-side
-    (λ c. omega arith)
-    -- shared-slice-read-is-side
-    (λ c. omega arith)
-    -- is-side-requires
-    (λ c κs. search needs)
+    (λ c. search needs) (λ c κs. search needs) (λ c. search needs) (λ c. omega arith) (λ c. search needs) (λ c. omega arith) (λ c. omega arith)
+    (λ c. search needs) (λ c. omega arith) (λ c. omega arith) (λ c κs. search needs)
     -- returns-5
     (λ c w. unknown (c .before .is-side .ensures) (c .if5 .taken) (w .wide))
-    -- add-is-side-2
-    (λ c. omega arith)
-    -- shared-slice-read-is-side-2
-    (λ c. omega arith)
-    -- is-side-requires-2
-    (λ c κs. search needs)
+    (λ c. omega arith) (λ c. omega arith) (λ c κs. search needs)
     -- returns-6
     (λ c w. unknown (c .before .is-side2 .ensures) (c .if6 .taken) (w .high))
-    -- add-is-float-kind
-    (λ c. omega arith)
-    -- shared-slice-read-is-float-kind
-    (λ c. omega arith)
-    -- is-float-kind-requires
-    (λ c κs. search needs)
+    (λ c. omega arith) (λ c. omega arith) (λ c κs. search needs)
     -- returns-7
     (λ c w. unknown (c .before .is-float-kind .ensures) (c .if7 .taken) (w .float))
-    -- add-is-scalar
-    (λ c. omega arith)
-    -- is-scalar-requires
-    (λ c κs. search needs)
+    (λ c. omega arith) (λ c κs. search needs)
     -- returns-8
     (λ c.
     decides-as (c .is-scalar .result) (c .is-scalar .ensures)

@@ -1,7 +1,7 @@
 -- What is left after the tests of the length and the mark is the walk's.
 use native.Mathlib.Omega.{arith}
 use borrow.Author.Needs.{needs}
-use Rattle.ty.proofs.Numbers.{decides-as}
+use Rattle.record.proofs.Starts.{decides-as}
 use Rattle.ty.proofs.is_runtime.Statement.{statement}
 use Rattle.ty.proofs.is_runtime.Tie as tie
 
@@ -9,20 +9,7 @@ pub is-runtime-spec : {M : Type 1} → statement M
 is-runtime-spec =
     tie.close
     (tie.spec
-    -- returns
-    (λ c. search needs)
-    -- returns-2
-    (λ c. search needs)
-    -- shared-slice-read-if3
-    (λ c. omega arith)
-    -- returns-3
-    (λ c. search needs)
-    -- shared-slice-read-if4
-    (λ c. omega arith)
-    -- returns-4
-    (λ c. search needs)
-    -- is-whole-requires
-    (λ c κs. search needs)
+    (λ c. search needs) (λ c. search needs) (λ c. omega arith) (λ c. search needs) (λ c. omega arith) (λ c. search needs) (λ c κs. search needs)
     -- returns-5
     (λ c.
     decides-as (c .is-whole .result) (c .is-whole .ensures)

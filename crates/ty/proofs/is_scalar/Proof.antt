@@ -1,7 +1,7 @@
 -- What is left after the tests of the mark is the kind's.
 use native.Mathlib.Omega.{arith}
 use borrow.Author.Needs.{needs}
-use Rattle.ty.proofs.Numbers.{decides-as, decides-test}
+use Rattle.record.proofs.Starts.{decides-as, decides-test}
 use Rattle.ty.proofs.is_scalar.Statement.{statement}
 use Rattle.ty.proofs.is_scalar.Tie as tie
 
@@ -15,24 +15,5 @@ pub is-scalar-spec : {M : Type 1} → statement M
 is-scalar-spec =
     tie.close
     (tie.spec
-    -- room-requires
-    (λ c κs. search needs)
-    -- returns
-    (λ c. search needs)
-    -- shared-slice-read-if2
-    (λ c. omega arith)
-    -- returns-2
-    (λ c. search needs)
-    -- add-if3
-    (λ c. omega arith)
-    -- shared-slice-read-if3
-    (λ c. omega arith)
-    -- returns-3
-    (λ c. search needs)
-    -- add-is-kind
-    (λ c. omega arith)
-    -- shared-slice-read-is-kind
-    (λ c. omega arith)
-    -- is-kind-requires
-    (λ c κs. search needs)
-    returns-4)
+    (λ c κs. search needs) (λ c. search needs) (λ c. omega arith) (λ c. search needs) (λ c. omega arith) (λ c. omega arith) (λ c. search needs)
+    (λ c. omega arith) (λ c. omega arith) (λ c κs. search needs) returns-4)

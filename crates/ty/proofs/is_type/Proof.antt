@@ -1,6 +1,6 @@
 -- What is left after the test of the length is the walk's.
 use borrow.Author.Needs.{needs}
-use Rattle.ty.proofs.Numbers.{decides-as}
+use Rattle.record.proofs.Starts.{decides-as}
 use Rattle.ty.proofs.is_type.Statement.{statement}
 use Rattle.ty.proofs.is_type.Tie as tie
 
@@ -8,9 +8,6 @@ pub is-type-spec : {M : Type 1} → statement M
 is-type-spec =
     tie.close
     (tie.spec
-    -- returns
-    (λ c. search needs)
-    -- is-whole-requires
-    (λ c κs. search needs)
+    (λ c. search needs) (λ c κs. search needs)
     -- returns-2
     (λ c. decides-as (c .is-whole .result) (c .is-whole .ensures) (λ x. record { most = c .before .if1 .left; ends = x }) (λ w. w .ends)))

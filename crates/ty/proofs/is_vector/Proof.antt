@@ -1,7 +1,7 @@
 -- What is left after the tests of the mark and the length is the scalar's.
 use native.Mathlib.Omega.{arith}
 use borrow.Author.Needs.{needs}
-use Rattle.ty.proofs.Numbers.{known, unknown, decides-as}
+use Rattle.record.proofs.Starts.{known, unknown, decides-as}
 use Rattle.ty.proofs.is_vector.Statement.{statement}
 use Rattle.ty.proofs.is_vector.Tie as tie
 
@@ -9,34 +9,11 @@ pub is-vector-spec : {M : Type 1} → statement M
 is-vector-spec =
     tie.close
     (tie.spec
-    -- returns
-    (λ c. search needs)
-    -- room-requires
-    (λ c κs. search needs)
-    -- returns-2
-    (λ c. search needs)
-    -- shared-slice-read-if3
-    (λ c. omega arith)
-    -- returns-3
-    (λ c. search needs)
-    -- add-if4
-    (λ c. omega arith)
-    -- shared-slice-read-if4
-    (λ c. omega arith)
-    -- returns-4
-    (λ c. search needs)
-    -- add-is-side
-    (λ c. omega arith)
-    -- shared-slice-read-is-side
-    (λ c. omega arith)
-    -- is-side-requires
-    (λ c κs. search needs)
+    (λ c. search needs) (λ c κs. search needs) (λ c. search needs) (λ c. omega arith) (λ c. search needs) (λ c. omega arith) (λ c. omega arith)
+    (λ c. search needs) (λ c. omega arith) (λ c. omega arith) (λ c κs. search needs)
     -- returns-5
     (λ c w. unknown (c .before .is-side .ensures) (c .if5 .taken) (w .wide))
-    -- add-is-scalar
-    (λ c. omega arith)
-    -- is-scalar-requires
-    (λ c κs. search needs)
+    (λ c. omega arith) (λ c κs. search needs)
     -- returns-6
     (λ c.
     decides-as (c .is-scalar .result) (c .is-scalar .ensures)

@@ -1,7 +1,7 @@
 -- The tests are the record's fields.
 use native.Mathlib.Omega.{arith}
 use borrow.Author.Needs.{needs}
-use Rattle.ty.proofs.Numbers.{known, unknown}
+use Rattle.record.proofs.Starts.{known, unknown}
 use Rattle.ty.proofs.is_vector_shape.Statement.{statement}
 use Rattle.ty.proofs.is_vector_shape.Tie as tie
 
@@ -9,20 +9,7 @@ pub is-vector-shape-spec : {M : Type 1} → statement M
 is-vector-shape-spec =
     tie.close
     (tie.spec
-    -- returns
-    (λ c. search needs)
-    -- shared-slice-read-if2
-    (λ c. omega arith)
-    -- returns-2
-    (λ c. search needs)
-    -- shared-slice-read-if3
-    (λ c. omega arith)
-    -- returns-3
-    (λ c. search needs)
-    -- shared-slice-read-is-side
-    (λ c. omega arith)
-    -- is-side-requires
-    (λ c κs. search needs)
+    (λ c. search needs) (λ c. omega arith) (λ c. search needs) (λ c. omega arith) (λ c. search needs) (λ c. omega arith) (λ c κs. search needs)
     -- returns-4
     (λ c w. unknown (c .before .is-side .ensures) (c .if4 .taken) (w .wide))
     -- returns-5

@@ -3,7 +3,7 @@ use mathlib.Core.Path.{subst}
 use borrow.Author.Needs.{needs}
 use lib.ListN.{length}
 use Rattle.ty.specs.Stands.{Ends}
-use Rattle.ty.specs.Fronts.{Told}
+use Rattle.ty.specs.TypeFronts.{Told}
 use Rattle.ty.proofs.Walks.{ends-at}
 use Rattle.ty.proofs.is_whole.Statement.{statement}
 use Rattle.ty.proofs.is_whole.Tie as tie
@@ -12,12 +12,7 @@ pub is-whole-spec : {M : Type 1} → statement M
 is-whole-spec =
     tie.close
     (tie.spec
-    -- type-end-requires
-    (λ c κs. search needs)
-    -- enum-known-e
-    (λ c. search needs)
-    -- enum-told
-    (λ c. search needs)
+    (λ c κs. search needs) (λ c. search needs) (λ c. search needs)
     -- returns
     (λ c.
     let a = c .before .before .before .before .before .args in

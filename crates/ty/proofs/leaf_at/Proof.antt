@@ -1,6 +1,5 @@
 -- The mark of a scalar says that one stands there.
 use native.Mathlib.Omega.{arith}
-use borrow.Author.Needs.{needs}
 use Rattle.ty.proofs.Heads.{any-front, scalar-by, scalar-head}
 use Rattle.ty.proofs.Leaves.{scalar-leaf}
 use Rattle.ty.proofs.leaf_at.Statement.{statement}
@@ -10,11 +9,9 @@ pub leaf-at-spec : {M : Type 1} → statement M
 leaf-at-spec =
     tie.close
     (tie.spec
-    -- add-if1
     (λ c. omega arith)
     -- shared-slice-read-if1
     (λ c. omega (arith, any-front (c .before .before .pre .stands)))
-    -- add-t8
     (λ c. omega arith)
     -- shared-slice-read-t10
     (λ c. let w = c .before .before .before .before .pre .stands in let x = scalar-by w (c .before .if1 .taken) in omega (arith, x .end, w .within))

@@ -3,7 +3,7 @@ use Prim.Native.Nat.{_+_, _*_}
 use native.Mathlib.Omega.{arith}
 use borrow.Author.Needs.{needs}
 use Rattle.meaning.specs.Trees.{Tv, valLen}
-use Rattle.ty.specs.Heads.{mostLit}
+use Rattle.record.specs.Literals.{mostLit}
 use Rattle.ty.proofs.Lens.{times-small, sized-times}
 use Rattle.ty.proofs.matrix_len.Statement.{statement}
 use Rattle.ty.proofs.matrix_len.Tie as tie
@@ -13,10 +13,7 @@ unfolding valLen
 matrix-len-spec =
     tie.close
     (tie.spec
-    -- wide-requires
-    (λ c κs. search needs)
-    -- vector-len-requires
-    (λ c κs. search needs)
+    (λ c κs. search needs) (λ c κs. search needs)
     -- mul-result
     (λ c.
     let a = c .before .before .args in
@@ -30,5 +27,5 @@ matrix-len-spec =
     -- returns
     (λ c.
     let a = c .before .before .args in
-    sized-times 4 (a .c) (c .before .wide .result) (a .kind) (3 + 255 * mostLit) (c .vector-len .result) (λ j. valLen (Tv (a .r) j)) (c .before .wide .ensures)
+    sized-times 4 (a .c) (c .before .wide .result) (a .kind) (3 + 255 * mostLit) (c .vector-len .result) (λ j. valLen (Tv (a .r) j)) (c .before .wide .ensures .0)
     (search needs) (c .vector-len .ensures)))

@@ -1,8 +1,8 @@
 -- A scalar that stands there ends three bytes on.
 use native.Mathlib.Omega.{arith}
 use borrow.Author.Needs.{needs}
-use Rattle.ty.proofs.Numbers.{decided}
-use Rattle.ty.proofs.Fronts.{scalar-ends}
+use Rattle.record.proofs.Starts.{decided}
+use Rattle.ty.proofs.TypeFronts.{scalar-ends}
 use Rattle.ty.proofs.type_end.Statement.{statement}
 use Rattle.ty.proofs.type_end.Tie as tie
 
@@ -10,13 +10,9 @@ pub type-end-spec : {M : Type 1} → statement M
 type-end-spec =
     tie.close
     (tie.spec
-    -- is-scalar-requires
     (λ c κs. search needs)
     -- add-t5
     (λ c. let w = decided (c .before .is-scalar .ensures) (c .if1 .taken) in record { fits = omega (arith, w .room) })
     -- returns
     (λ c. scalar-ends (decided (c .before .is-scalar .ensures) (c .if1 .taken)))
-    -- walk-end-requires
-    (λ c κs. search needs)
-    -- returns-2
-    (λ c. search needs))
+    (λ c κs. search needs) (λ c. search needs))

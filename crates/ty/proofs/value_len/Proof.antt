@@ -10,17 +10,14 @@ pub value-len-spec : {M : Type 1} → statement M
 value-len-spec =
     tie.close
     (tie.spec
-    -- add-if1
     (λ c. omega arith)
     -- shared-slice-read-if1
     (λ c. omega (arith, any-front (c .before .before .pre .stands)))
     -- add-t8
     (λ c. let w = c .before .before .before .pre .stands in let x = scalar-by w (c .if1 .taken) in omega (arith, x .end, w .within))
-    -- add-literal-len
     (λ c. omega arith)
     -- shared-slice-read-literal-len
     (λ c. let w = c .before .before .before .before .pre .stands in let x = scalar-by w (c .before .if1 .taken) in omega (arith, x .end, w .within))
-    -- literal-len-requires
     (λ c κs. search needs)
     -- returns
     (λ c t e w. scalar-len w (scalar-head (scalar-by w (c .before .before .if1 .taken))) (c .literal-len .ensures))

@@ -2,7 +2,7 @@
 use native.Mathlib.Omega.{arith}
 use borrow.Author.Needs.{needs}
 use Rattle.meaning.specs.Trees.{valLen, litLen}
-use Rattle.ty.specs.Heads.{mostLit}
+use Rattle.record.specs.Literals.{mostLit}
 use Rattle.ty.proofs.Lens.{times-small, sized-times}
 use Rattle.ty.proofs.vector_len.Statement.{statement}
 use Rattle.ty.proofs.vector_len.Tie as tie
@@ -12,10 +12,7 @@ unfolding valLen
 vector-len-spec =
     tie.close
     (tie.spec
-    -- wide-requires
-    (λ c κs. search needs)
-    -- literal-len-requires
-    (λ c κs. search needs)
+    (λ c κs. search needs) (λ c κs. search needs)
     -- mul-result
     (λ c.
     let a = c .before .before .args in
@@ -27,5 +24,5 @@ vector-len-spec =
     -- returns
     (λ c.
     let a = c .before .before .args in
-    sized-times 3 (a .n) (c .before .wide .result) (a .kind) mostLit (c .literal-len .result) litLen (c .before .wide .ensures) (search needs)
+    sized-times 3 (a .n) (c .before .wide .result) (a .kind) mostLit (c .literal-len .result) litLen (c .before .wide .ensures .0) (search needs)
     (c .literal-len .ensures)))

@@ -1,10 +1,10 @@
 -- What the check answered.
 use mathlib.Core.Path.{subst}
 use borrow.Author.Needs.{needs}
-use Rattle.call.proofs.Answers.{told-as}
-use Rattle.typing.proofs.Answers.{answer-no, answer-miscount, answer-type}
+use Rattle.error.proofs.Told.{told-as}
+use Rattle.typing.proofs.TypingAnswers.{answer-no, answer-miscount, answer-type}
 use Rattle.typing.proofs.Hands.{hand-whole}
-use Rattle.typing.specs.Rules.{Rules}
+use Rattle.check_type.specs.Rules.{Rules}
 use Rattle.typing.proofs.answer.Statement.{statement}
 use Rattle.typing.proofs.answer.Tie as tie
 
@@ -12,16 +12,7 @@ pub answer-spec : {M : Type 1} → statement M
 answer-spec =
     tie.close
     (tie.spec
-    -- enum-told
-    (λ c. search needs)
-    -- hand-requires
-    (λ c κs. search needs)
-    -- enum-known-x
-    (λ c. search needs)
-    -- enum-known-x-2
-    (λ c. search needs)
-    -- same-length
-    (λ c. search needs)
+    (λ c. search needs) (λ c κs. search needs) (λ c. search needs) (λ c. search needs) (λ c. search needs)
     -- returns
     (λ c t y w h. answer-type y _ (subst (Rules y t) (c .before .before .before .before .enum-told .given .1) h) (told-as (hand-whole _ w) (c .before .before .hand .ensures)))
     -- returns-2

@@ -1,12 +1,9 @@
 -- The common type, or none.
-use mathlib.Core.Path.{subst}
 use borrow.Author.Needs.{needs}
-use Rattle.meaning.specs.Convert.{common}
 use Rattle.meaning.specs.Trees.{Qa}
 use Rattle.meaning.specs.Typing.{typed}
-use Rattle.lists.specs.Lists.{Commons}
-use Rattle.lists.specs.declared.Common.{Common}
-use Rattle.typing.proofs.Answers.{answer-no, answer-type, qa-never, qa-some}
+use Rattle.common_type.proofs.CommonAnswer.{common-of, common-none}
+use Rattle.typing.proofs.TypingAnswers.{answer-no, answer-type, qa-never, qa-some}
 use Rattle.typing.proofs.answer_array.Statement.{statement}
 use Rattle.typing.proofs.answer_array.Tie as tie
 
@@ -14,23 +11,23 @@ pub answer-array-spec : {M : Type 1} → statement M
 answer-array-spec =
     tie.close
     (tie.spec
-    -- slice-aggregate-common-type
     (λ c. search needs)
     -- common-type-requires
     (λ c κs. (record { types = _; row = c .before .before .before .pre .given .row }, search needs))
-    -- enum-known-q
-    (λ c. search needs)
-    -- slice-aggregate-hand-array
-    (λ c. search needs)
+    (λ c. search needs) (λ c. search needs)
     -- hand-array-requires
-    (λ c κs. let x = subst (λ (r : Common). Commons (common (c .before .before .before .before .before .before .before .before .before .before .pre .types)) r (c .before .before .before .before .before .before .common-type .last .1 .0)) (c .before .before .before .q .given .1) (c .before .before .before .before .before .before .common-type .ensures _ (c .before .before .before .before .before .before .before .before .before .before .pre .given .row)) in record { type = x .type; stands = x .stands })
-    -- enum-told
-    (λ c. search needs)
-    -- same-length
-    (λ c. search needs)
+    (λ c κs.
+    let p = c .before .before .before .before .before .before .before .before .before .before .pre in
+    let o = c .before .before .before .before .before .before .common-type in
+    let x = common-of _ (o .result) (o .last .1 .0) (o .ensures _ (p .given .row)) (c .before .before .before .q .given .1) in
+    record { type = x .type; stands = x .stands })
+    (λ c. search needs) (λ c. search needs)
     -- returns
     (λ c l g.
-    let x = subst (λ (r : Common). Commons (common l) r (c .before .before .before .before .before .before .before .before .before .common-type .last .1 .0)) (c .before .before .before .before .before .before .q .given .1) (c .before .before .before .before .before .before .before .before .before .common-type .ensures l (g .row)) in
+    let o = c .before .before .before .before .before .before .before .before .before .common-type in
+    let x = common-of _ (o .result) (o .last .1 .0) (o .ensures l (g .row)) (c .before .before .before .before .before .before .q .given .1) in
     answer-type (typed Qa l) _ (qa-some l (g .count) (x .is)) (c .before .before .hand-array .ensures (x .type) (x .stands)))
     -- returns-2
-    (λ c l g. answer-no (typed Qa l) _ (qa-never l (subst (λ (r : Common). Commons (common l) r (c .before .before .before .common-type .last .1 .0)) (c .enum-told .given .1) (c .before .before .before .common-type .ensures l (g .row))))))
+    (λ c l g.
+    let o = c .before .before .before .common-type in
+    answer-no (typed Qa l) _ (qa-never l (common-none _ (o .result) (o .last .1 .0) (o .ensures l (g .row)) (c .enum-told .given .1)))))

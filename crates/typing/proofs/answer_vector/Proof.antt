@@ -2,8 +2,8 @@
 use mathlib.Core.Path.{subst}
 use borrow.Author.Needs.{needs}
 use Rattle.meaning.specs.Trees.{Tv}
-use Rattle.typing.proofs.Answers.{answer-no, answer-miscount, answer-type}
-use Rattle.typing.specs.Shapes.{Names}
+use Rattle.typing.proofs.TypingAnswers.{answer-no, answer-miscount, answer-type}
+use Rattle.infer_type.specs.Shapes.{Names}
 use Rattle.typing.proofs.answer_vector.Statement.{statement}
 use Rattle.typing.proofs.answer_vector.Tie as tie
 
@@ -11,16 +11,7 @@ pub answer-vector-spec : {M : Type 1} → statement M
 answer-vector-spec =
     tie.close
     (tie.spec
-    -- enum-known-x
-    (λ c. search needs)
-    -- hand-vector-requires
-    (λ c κs. search needs)
-    -- enum-known-x-2
-    (λ c. search needs)
-    -- enum-known-x-3
-    (λ c. search needs)
-    -- same-length
-    (λ c. search needs)
+    (λ c. search needs) (λ c κs. search needs) (λ c. search needs) (λ c. search needs) (λ c. search needs)
     -- returns
     (λ c y h. let z = subst (Names (Tv (c .before .before .before .before .before .before .before .before .args .n)) y) (c .before .before .before .before .before .x .given .1) h in answer-type y _ (z .2) (c .before .before .hand-vector .ensures (z .0) (z .1)))
     -- returns-2

@@ -2,7 +2,7 @@
 use native.Mathlib.Omega.{arith}
 use lib.ListN.{length-set}
 use borrow.Author.Needs.{needs}
-use Rattle.call.proofs.Answers.{refused}
+use Rattle.error.proofs.BufferAtExit.{refused}
 use Rattle.typing.proofs.Hands.{array-long, array-put, marked-len, count-end}
 use Rattle.typing.proofs.hand_array.Statement.{statement}
 use Rattle.typing.proofs.hand_array.Tie as tie
@@ -13,16 +13,14 @@ hand-array-spec =
     (tie.spec
     -- returns
     (λ c t w. refused 22 _ (array-long w (c .before .before .before .args .n) (c .before .before .before .args .out .now) (omega arith)))
-    -- sub-if2
     (λ c. search needs)
     -- returns-2
     (λ c t w. refused 22 _ (array-long w (c .before .before .before .before .args .n) (c .before .before .before .before .args .out .now) (omega arith)))
-    -- slice-write-out
     (λ c. search needs)
     -- slice-write-out-2
     (λ c. simp length-set (omega arith))
     -- put-le-requires
-    (λ c κs. simp length-set (omega arith))
+    (λ c κs. (tt, simp length-set (omega arith)))
     -- copy-requires
     (λ c κs. let p = c .before .before .before .before .before .before .before .before .before .pre .stands in (omega arith, p .within, omega (arith, count-end _ (c .before .before .before .put-le .ensures), c .before .before .before .put-le .kept .0, marked-len (c .before .before .before .before .before .before .before .before .before .args .out .now) 84 97)))
     -- same-length

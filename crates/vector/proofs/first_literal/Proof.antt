@@ -9,7 +9,6 @@ pub first-literal-spec : {M : Type 1} → statement M
 first-literal-spec =
     tie.close
     (tie.spec
-    -- add-if1
     (λ c. search needs)
     -- shared-slice-read-if1
     (λ c. omega (arith, arg-front (c .before .pre .row)))

@@ -4,13 +4,15 @@ use Prim.Native.Nat.{_-_, _≤_}
 use native.Mathlib.Omega.{arith}
 use lib.ListN.{length}
 use Rattle.meaning.specs.Trees.{Val}
-use Rattle.call.specs.Row.{Row}
-use Rattle.vector.proofs.Loops.{CountLeft, left-arg, left-less, count-on, count-small, count-fits, count-end}
+use Rattle.meaning.specs.Build.{flattened}
+use Rattle.args.specs.Row.{Row}
+use Rattle.args.proofs.ArgumentRows.{args-some, args-less}
+use Rattle.vector.proofs.PartsLeft.{CountLeft, count-on, count-small, count-fits, count-end}
 use Rattle.vector.proofs.flat_count.Statement.{statement}
 use Rattle.vector.proofs.flat_count.Tie as tie
 
 abbrev Inv : tie.InvT-loop
-Inv args i₀ m₀ i m = (m ≤ i) × ((l : List Val) → Row args 0 l → CountLeft args l i m)
+Inv args i₀ m₀ i m = (m ≤ i) × ((l : List Val) → Row args 0 l → CountLeft args (length (flattened l)) i m)
 
 abbrev μ : tie.MeasureT-loop
 μ args i₀ m₀ i m = length args - i
@@ -20,18 +22,18 @@ flat-count-spec =
     tie.close
     (tie.spec Inv μ
     -- loop-holds
-    (λ c. (omega arith, λ l x. record { values = l; row = x; sums = omega arith }))
+    (λ c. (omega arith, λ l x. record { items = l; row = x; so = record { sums = omega arith } }))
     -- part-count-requires
-    (λ c κs. let p = c .before .before .before .pre in left-arg (c .before .loop .inv .1 (p .values) (p .row) .row) (c .loop-test .taken))
+    (λ c κs. let p = c .before .before .before .pre in args-some (c .before .loop .inv .1 (p .values) (p .row)) (c .loop-test .taken))
     -- add-m
     (λ c.
     let p = c .before .before .before .before .pre in
     let v = c .before .before .loop .inv in
     omega (arith, count-fits (v .1 (p .values) (p .row)) (c .before .loop-test .taken) (c .part-count .ensures) (v .0)))
     -- next-arg-requires
-    (λ c κs. let p = c .before .before .before .before .pre in left-arg (c .before .before .loop .inv .1 (p .values) (p .row) .row) (c .before .loop-test .taken))
+    (λ c κs. let p = c .before .before .before .before .pre in args-some (c .before .before .loop .inv .1 (p .values) (p .row)) (c .before .loop-test .taken))
     -- loop-less
-    (λ c. let p = c .before .before .before .before .before .pre in omega (arith, c .before .before .loop-test .taken, left-less (c .before .before .before .loop .inv .1 (p .values) (p .row) .row) (c .before .before .loop-test .taken) (c .next-arg .ensures)))
+    (λ c. let p = c .before .before .before .before .before .pre in omega (arith, c .before .before .loop-test .taken, args-less (c .before .before .before .loop .inv .1 (p .values) (p .row)) (c .before .before .loop-test .taken) (c .next-arg .ensures)))
     -- loop-again
     (λ c.
     let p = c .before .before .before .before .before .pre in

@@ -10,7 +10,6 @@ pub is-flat-spec : {M : Type 1} → statement M
 is-flat-spec =
     tie.close
     (tie.spec
-    -- add-mark
     (λ c. search needs)
     -- shared-slice-read-mark
     (λ c. omega (arith, arg-front (c .before .pre .row)))

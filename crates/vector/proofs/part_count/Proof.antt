@@ -11,11 +11,9 @@ pub part-count-spec : {M : Type 1} → statement M
 part-count-spec =
     tie.close
     (tie.spec
-    -- add-if1
     (λ c. search needs)
     -- shared-slice-read-if1
     (λ c. omega (arith, arg-front (c .before .pre .row)))
-    -- add-result
     (λ c. search needs)
     -- shared-slice-read-result
     (λ c. omega (arith, arg-front (c .before .before .before .pre .row)))

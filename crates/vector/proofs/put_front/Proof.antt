@@ -1,6 +1,6 @@
 -- The mark, then the count.
 use borrow.Author.Needs.{needs}
-use Rattle.conv.proofs.Bytes.{put-one, put-put}
+use Rattle.record.proofs.Puts.{put-one, put-put}
 use Rattle.vector.proofs.put_front.Statement.{statement}
 use Rattle.vector.proofs.put_front.Tie as tie
 
@@ -8,14 +8,7 @@ pub put-front-spec : {M : Type 1} → statement M
 put-front-spec =
     tie.close
     (tie.spec
-    -- put-mark-requires
-    (λ c κs. search needs)
-    -- slice-write-out
-    (λ c. search needs)
-    -- add-result
-    (λ c. search needs)
-    -- same-length
-    (λ c. search needs)
+    (λ c κs. search needs) (λ c. search needs) (λ c. search needs) (λ c. search needs)
     -- returns
     (λ c.
     let m = c .before .before .put-mark in

@@ -1,9 +1,11 @@
 -- A literal is repeated, a vector of that length kept, anything else is one part.
+use mathlib.Core.Path.{refl}
 use native.Mathlib.Omega.{arith}
 use borrow.Author.Needs.{needs}
-use Rattle.call.proofs.Answers.{builds-as, builds-no, builds-miscount}
+use Rattle.error.proofs.BufferAtExit.{builds-as, builds-no, builds-miscount}
+use Rattle.args.proofs.Kept.{hand-kept}
 use Rattle.vector.proofs.Args.{arg-front, arg-literal, arg-vector, arg-other, literal-bits, literal-good}
-use Rattle.vector.proofs.Ones.{qv-literal, qv-other-length, qv-length, qv-other}
+use Rattle.vector.proofs.OneToVector.{qv-literal, qv-other-length, qv-length, qv-other}
 use Rattle.vector.proofs.qv_one.Statement.{statement}
 use Rattle.vector.proofs.qv_one.Tie as tie
 
@@ -19,7 +21,6 @@ qv-one-spec =
     (λ c κs. omega (arith, arg-literal (c .before .before .before .before .before .pre .1 .row) (c .before .if1 .taken) .room))
     -- repeated-requires
     (λ c κs. let x = arg-literal (c .before .before .before .before .before .before .before .pre .1 .row) (c .before .before .before .if1 .taken) in record { kind = x .kind; no = x .no })
-    -- same-length
     (λ c. search needs)
     -- returns
     (λ c v x.
@@ -31,11 +32,8 @@ qv-one-spec =
     (λ c. omega (arith, arg-front (c .before .before .before .before .before .before .pre .1 .row)))
     -- returns-2
     (λ c v x. let a = c .before .before .before .before .before .before .before .args in builds-no (a .out .now) 7 (qv-other-length (a .n) (arg-vector x (c .before .before .if2 .taken)) (c .if3 .taken)))
-    -- kept-requires
-    (λ c κs. search needs)
-    -- same-length-2
-    (λ c. search needs)
+    (λ c κs. search needs) (λ c. search needs)
     -- returns-3
-    (λ c v x. let a = c .before .before .before .before .before .before .before .before .before .before .before .args in builds-as (a .out .now) (qv-length (a .n) (arg-vector x (c .before .before .before .before .before .before .if2 .taken)) (c .before .before .before .before .if3 .left)) (c .before .before .kept .ensures v x))
+    (λ c v x. let a = c .before .before .before .before .before .before .before .before .before .before .before .args in builds-as (a .out .now) (qv-length (a .n) (arg-vector x (c .before .before .before .before .before .before .if2 .taken)) (c .before .before .before .before .if3 .left)) (hand-kept x refl (c .before .before .hand .ensures)))
     -- returns-4
-    (λ c v x. let a = c .before .before .before .before .before .args in builds-miscount (a .out .now) (a .n) 1 (qv-other (a .n) v (c .before .before .before .before .before .pre .0) (arg-other x (c .before .if1 .left) (c .if2 .left)))))
+    (λ c v x. search (builds-miscount, qv-other, arg-other)))

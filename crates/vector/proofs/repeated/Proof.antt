@@ -10,7 +10,6 @@ pub repeated-spec : {M : Type 1} → statement M
 repeated-spec =
     tie.close
     (tie.spec
-    -- vector-len-requires
     (λ c κs. search needs)
     -- returns
     (λ c j e g.
@@ -18,13 +17,12 @@ repeated-spec =
     vector-long (a .n) (c .before .vector-len .ensures) j e (replicate (a .n) (a .bits)) (length-replicate (a .n) (a .bits)) (splat-good j (a .n) (a .bits) g) (a .out .now) (c .if1 .taken))
     -- put-front-requires
     (λ c κs. let k = c .before .before .before .before .pre in front-room (c .before .before .before .before .args .n) (c .before .before .vector-len .ensures) (k .kind) (k .no) (c .before .before .before .before .args .out .now) (c .before .if1 .left))
-    -- put-copies-requires
-    (λ c κs. let k = c .before .before .before .before .before .before .before .before .pre in let m = c .before .before .before .put-front in all-room (c .before .before .before .before .before .before .before .before .args .n) (c .before .before .before .before .before .before .vector-len .ensures) (k .kind) (k .no) (c .before .before .before .before .before .if1 .left) (m .ensures) (m .kept .1 .0))
-    -- same-length
+    -- put-literals-requires
+    (λ c κs. search all-room)
     (λ c. search needs)
     -- returns-2
     (λ c j e g.
     let a = c .before .before .before .before .before .before .before .before .before .before .before .args in
     let ps = replicate (a .n) (a .bits) in
     vector-record (a .n) (c .before .before .before .before .before .before .before .before .before .vector-len .ensures) j e ps (length-replicate (a .n) (a .bits)) (splat-good j (a .n) (a .bits) g) (a .out .now) (c .before .before .before .before .before .before .before .before .if1 .left) (c .before .before .before .before .before .before .put-front .ensures)
-    (copies-put j ps e (c .before .before .put-copies .ensures))))
+    (copies-put j (a .n) (a .bits) e (c .before .before .put-literals .ensures))))

@@ -1,9 +1,9 @@
 -- The literal converts and is repeated, or it does not.
 use native.Mathlib.Omega.{arith}
 use borrow.Author.Needs.{needs}
-use Rattle.call.proofs.Answers.{builds-as, builds-no}
+use Rattle.error.proofs.BufferAtExit.{builds-as, builds-no}
 use Rattle.vector.proofs.Args.{arg-front, arg-literal, literal-bits}
-use Rattle.vector.proofs.Ones.{vec-unfit, vec-splat, splat-in}
+use Rattle.vector.proofs.OneToVector.{vec-unfit, vec-splat, splat-in}
 use Rattle.vector.proofs.splat.Statement.{statement}
 use Rattle.vector.proofs.splat.Tie as tie
 
@@ -15,16 +15,10 @@ splat-spec =
     (λ c. omega (arith, arg-front (c .before .before .before .pre .1 .0 .row)))
     -- payload-at-requires
     (λ c κs. let p = c .before .before .before .pre .1 in omega (arith, arg-literal (p .0 .row) (p .1) .room))
-    -- convert-literal-requires
-    (λ c κs. search needs)
-    -- enum-known-p
-    (λ c. search needs)
+    (λ c κs. search needs) (λ c. search needs)
     -- repeated-requires
     (λ c κs. c .before .before .before .before .before .before .before .before .before .pre .0)
-    -- enum-told
-    (λ c. search needs)
-    -- same-length
-    (λ c. search needs)
+    (λ c. search needs) (λ c. search needs)
     -- returns
     (λ c s j v e x.
     let a = c .before .before .before .before .before .before .before .before .before .before .before .before .args in

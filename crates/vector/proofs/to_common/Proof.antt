@@ -5,9 +5,9 @@ use borrow.Author.Needs.{needs}
 use borrow.Author.Tests.{not-true, not-false}
 use Rattle.meaning.specs.Build.{flattened}
 use Rattle.ty.proofs.Heads.{any-front}
-use Rattle.conv.proofs.Written.{all-length}
-use Rattle.call.proofs.Answers.{builds-as, builds-no}
-use Rattle.vector.specs.Parts.{payTo}
+use Rattle.laws.proofs.Each.{some-length}
+use Rattle.error.proofs.BufferAtExit.{builds-as, builds-no}
+use Rattle.vector.specs.VectorParts.{payTo}
 use Rattle.vector.proofs.Decides.{flat-items, fits-none, fits-goes}
 use Rattle.vector.proofs.Commons.{common-kind, common-no, common-flat, qv-none, qv-some, asked-fit, qv-unfit, qv-not-scalar}
 use Rattle.vector.proofs.to_common.Statement.{statement}
@@ -22,7 +22,7 @@ to-common-spec =
     -- shared-slice-read-k
     (λ c. omega (arith, any-front (c .before .before .before .before .before .before .pre .common .whole)))
     -- fits-requires
-    (λ c κs. let x = c .before .before .before .before .before .before .pre .common in let m = c .before .if1 .taken in flat-items (common-kind x m) (x .row) (common-flat x m))
+    (λ c κs. search (flat-items, common-kind, common-flat))
     -- returns
     (λ c l t x.
     let m = c .before .before .before .if1 .taken in
@@ -36,9 +36,8 @@ to-common-spec =
     let g = fits-goes (common-kind x m) (x .row) (common-flat x m) (common-no x m) (f .ensures) (not-false (f .result) (c .before .if2 .left)) in
     record {
       some = record { kind = common-kind x m; no = common-no x m; values = _; pays = g .0; goes = g .1 };
-      count = all-length (payTo (common-kind x m)) _ (g .0) (g .1 .goes) ∙ x .count;
+      count = some-length (payTo (common-kind x m)) _ (g .0) (g .1 .goes) ∙ x .count;
     })
-    -- same-length
     (λ c. search needs)
     -- returns-2
     (λ c l t x.
@@ -47,9 +46,9 @@ to-common-spec =
     let j = common-kind x m in
     let g = fits-goes j (x .row) (common-flat x m) (common-no x m) (f .ensures) (not-false (f .result) (c .before .before .before .before .if2 .left)) in
     builds-as (c .before .before .before .before .before .before .before .before .before .before .before .before .args .out .now) (qv-some x m (g .0) (g .1 .goes))
-    (c .before .before .write-parts .ensures j l (g .0) (common-no x m) (g .1) (all-length (payTo j) (flattened l) (g .0) (g .1 .goes) ∙ x .count)))
+    (c .before .before .write-parts .ensures j l (g .0) (common-no x m) (g .1) (some-length (payTo j) (flattened l) (g .0) (g .1 .goes) ∙ x .count)))
     -- all-fit-requires
-    (λ c κs. asked-fit (c .before .before .before .before .before .pre .common) (c .if1 .left))
+    (λ c κs. search asked-fit)
     -- returns-3
     (λ c l t x.
     let f = c .before .all-fit in

@@ -1,9 +1,9 @@
 -- By the second letter of the mark.
 use native.Mathlib.Omega.{arith}
 use borrow.Author.Needs.{needs}
-use Rattle.call.proofs.Answers.{builds-miscount}
+use Rattle.error.proofs.BufferAtExit.{builds-miscount}
 use Rattle.vector.proofs.Args.{arg-front, arg-other}
-use Rattle.vector.proofs.Ones.{vec-other}
+use Rattle.vector.proofs.OneToVector.{vec-other}
 use Rattle.vector.proofs.vec_one.Statement.{statement}
 use Rattle.vector.proofs.vec_one.Tie as tie
 
@@ -15,15 +15,13 @@ vec-one-spec =
     (λ c. omega (arith, arg-front (c .before .before .before .pre .1 .1 .1 .row)))
     -- splat-requires
     (λ c κs. let p = c .before .before .before .before .before .pre .1 .1 in (p .0, (p .1, c .before .if1 .taken)))
-    -- same-length
     (λ c. search needs)
     -- returns
     (λ c s j v a e x. c .before .before .splat .ensures s j v e x)
     -- rebuilt-requires
     (λ c κs. let p = c .before .before .before .before .before .before .pre in (p .0, (p .1 .1 .0, (p .1 .1 .1, c .before .if2 .taken))))
-    -- same-length-2
     (λ c. search needs)
     -- returns-2
     (λ c s j v a e x. c .before .before .rebuilt .ensures s j v a e x)
     -- returns-3
-    (λ c s j v a e x. let b = c .before .before .before .before .before .args in builds-miscount (b .out .now) (b .n) 1 (vec-other s (b .n) j v (c .before .before .before .before .before .pre .1 .0) (arg-other x (c .before .if1 .left) (c .if2 .left)))))
+    (λ c s j v a e x. search (builds-miscount, vec-other, arg-other)))

@@ -4,9 +4,9 @@ use lib.Dec.{T}
 use borrow.Author.Needs.{needs}
 use borrow.Author.Tests.{not-true, not-false}
 use Rattle.meaning.specs.Build.{flattened}
-use Rattle.conv.proofs.Written.{all-length}
-use Rattle.call.proofs.Answers.{builds-as, builds-no, builds-miscount}
-use Rattle.vector.specs.Parts.{payTo}
+use Rattle.laws.proofs.Each.{some-length}
+use Rattle.error.proofs.BufferAtExit.{builds-as, builds-no, builds-miscount}
+use Rattle.vector.specs.VectorParts.{payTo}
 use Rattle.vector.proofs.Lits.{other-none}
 use Rattle.vector.proofs.Decides.{vec-miscount, vec-none, vec-some, flat-items, fits-none, fits-goes}
 use Rattle.vector.proofs.vec_parts.Statement.{statement}
@@ -16,13 +16,11 @@ pub vec-parts-spec : {M : Type 1} → statement M
 vec-parts-spec =
     tie.close
     (tie.spec
-    -- flat-count-requires
     (λ c κs. search needs)
     -- returns
     (λ c j l e x.
     let a = c .before .before .before .before .args in
     builds-miscount (a .out .now) (a .n) (c .before .flat-count .result) (vec-miscount (a .n) (c .before .flat-count .result) j (flattened l) (c .if1 .taken) (c .before .flat-count .ensures l x)))
-    -- all-flat-requires
     (λ c κs. search needs)
     -- returns-2
     (λ c j l e x.
@@ -51,9 +49,8 @@ vec-parts-spec =
     let g = fits-goes (p .1 .0 .kind) x f (p .1 .0 .no) (c .before .before .fits2 .ensures) (not-false (c .before .before .fits2 .result) (c .before .if3 .left)) in
     record {
       some = record { kind = p .1 .0 .kind; no = p .1 .0 .no; values = _; pays = g .0; goes = g .1 };
-      count = all-length (payTo (p .1 .0 .kind)) _ (g .0) (g .1 .goes) ∙ (sym (m .ensures _ x) ∙ c .before .before .before .before .before .if1 .left);
+      count = some-length (payTo (p .1 .0 .kind)) _ (g .0) (g .1 .goes) ∙ (sym (m .ensures _ x) ∙ c .before .before .before .before .before .if1 .left);
     })
-    -- same-length
     (λ c. search needs)
     -- returns-4
     (λ c j l e x.
@@ -62,4 +59,4 @@ vec-parts-spec =
     let f = subst T (sym (not-false (c .before .before .before .before .before .before .before .all-flat .result) (c .before .before .before .before .before .before .if2 .left)) ∙ c .before .before .before .before .before .before .before .all-flat .ensures l x) tt in
     let g = fits-goes j x f e (c .before .before .before .before .before .fits2 .ensures) (not-false (c .before .before .before .before .before .fits2 .result) (c .before .before .before .before .if3 .left)) in
     builds-as (a .out .now) (vec-some (a .n) (m .result) j (flattened l) (c .before .before .before .before .before .before .before .before .if1 .left) (m .ensures l x) (g .0) (g .1 .goes))
-    (c .before .before .write-parts .ensures j l (g .0) e (g .1) (all-length (payTo j) (flattened l) (g .0) (g .1 .goes) ∙ (sym (m .ensures l x) ∙ c .before .before .before .before .before .before .before .before .if1 .left)))))
+    (c .before .before .write-parts .ensures j l (g .0) e (g .1) (some-length (payTo j) (flattened l) (g .0) (g .1 .goes) ∙ (sym (m .ensures l x) ∙ c .before .before .before .before .before .before .before .before .if1 .left)))))

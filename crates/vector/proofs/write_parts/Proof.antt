@@ -9,10 +9,9 @@ pub write-parts-spec : {M : Type 1} → statement M
 write-parts-spec =
     tie.close
     (tie.spec
-    -- vector-len-requires
     (λ c κs. search needs)
     -- returns
-    (λ c j l ps e g q. let a = c .before .before .before .before .args in vector-long (a .n) (c .before .vector-len .ensures) j e ps q (goes-good g) (a .out .now) (c .if1 .taken))
+    (λ c j l ps e g q. search (vector-long, goes-good))
     -- put-front-requires
     (λ c κs. let p = c .before .before .before .before .before .pre .some in front-room (c .before .before .before .before .before .args .n) (c .before .before .vector-len .ensures) (p .kind) (p .no) (c .before .before .before .before .before .args .out .now) (c .before .if1 .left))
     -- put-parts-requires
@@ -24,7 +23,6 @@ write-parts-spec =
       some = p .some;
       room = vector-room (a .n) (c .before .before .before .before .before .before .vector-len .ensures) (p .some .kind) (p .some .no) (p .some .pays) (p .count) (goes-good (p .some .goes)) (a .out .now) (c .before .before .before .before .before .if1 .left) (m .ensures) (m .kept .1 .0);
     })
-    -- same-length
     (λ c. search needs)
     -- returns-2
     (λ c j l ps e g q.

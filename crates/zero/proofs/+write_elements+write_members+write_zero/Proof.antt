@@ -7,7 +7,7 @@ use lib.ListN.{length}
 use Rattle.meaning.specs.Trees.{Ty, Tys, zeroOf, zerosOf}
 use Rattle.meaning.specs.Records.{valBytes, valsBytes}
 use Rattle.ty.specs.Stands.{Stands, StandAll}
-use Rattle.zero.proofs.Left.{left-all, copies-all}
+use Rattle.record.proofs.Left.{left-all, copies-all}
 use Rattle.zero.proofs.Zeros.{room-stands, scalar-zero-is, vector-zero-is, matrix-zero-is, whole-done, array-done, struct-done}
 use Rattle.zero.proofs.Zeros.{scalar-room, vector-room, matrix-room, array-room, array-deep, array-parts, struct-room, struct-deep, struct-parts}
 use Rattle.zero.proofs.Zeros.{EachLeft, each-room, each-on, each-end, AllLeft, all-room, all-on, all-end}
@@ -84,10 +84,7 @@ pub +write-elements+write-members+write-zero-spec : {M : Type 1} → statement M
     let p = c .before .before .before .before .before .pre .1 in
     let v = c .before .before .loop .inv in
     (omega (arith, c .before .before .before .before .before .pre .0), each-room (p .stands) (v .1 (p .type) (p .end) (p .stands)) (omega (arith, c .before .loop-test .taken)) (omega (arith, p .room, v .0))))
-    -- sub-left
-    (λ c. omega arith)
-    -- loop-less
-    (λ c. omega arith)
+    (λ c. omega arith) (λ c. omega arith)
     -- loop-again
     (λ c.
     let v = c .before .before .before .before .before .loop .inv in
@@ -105,10 +102,7 @@ pub +write-elements+write-members+write-zero-spec : {M : Type 1} → statement M
     let p = c .before .before .before .before .before .pre .1 in
     let v = c .before .before .loop .inv in
     (omega (arith, c .before .before .before .before .before .pre .0), all-room (v .1 (p .types) (p .end) (p .stands)) (c .before .loop-test .taken) (omega (arith, p .room, v .0))))
-    -- sub-left
-    (λ c. omega arith)
-    -- loop-less
-    (λ c. omega arith)
+    (λ c. omega arith) (λ c. omega arith)
     -- loop-again
     (λ c.
     let v = c .before .before .before .before .before .loop .inv in
@@ -122,47 +116,34 @@ pub +write-elements+write-members+write-zero-spec : {M : Type 1} → statement M
     (head-at-reads.Asked, head-at-reads.Learnt, put-zero-reads.Asked, put-zero-reads.Learnt, put-vector-reads.Asked, put-vector-reads.Learnt, put-matrix-reads.Asked, put-matrix-reads.Learnt, put-array-reads.Asked, put-array-reads.Learnt, write-elements-below t, write-elements.Post, put-struct-reads.Asked, put-struct-reads.Learnt, write-members-below t, write-members.Post)
     (write-zero-at t) write-zero.Post
     -- head-at-requires
-    (λ c κs. room-stands (c .before .before .pre .1))
-    -- enum-known-k
+    (λ c κs. search room-stands)
     (λ c. search needs)
     -- put-zero-requires
-    (λ c κs. scalar-room (c .before .before .before .before .before .before .before .pre .1) (c .before .before .before .before .head-at .ensures) (c .before .before .k .given .1))
-    -- add-t24
-    (λ c. search needs)
-    -- enum-known-n
-    (λ c. search needs)
+    (λ c κs. search scalar-room)
+    (λ c. search needs) (λ c. search needs)
     -- put-vector-requires
-    (λ c κs. vector-room (c .before .before .before .before .before .before .before .pre .1) (c .before .before .before .before .head-at .ensures) (c .before .before .n .given .1))
-    -- add-t27
-    (λ c. search needs)
-    -- enum-known-c
-    (λ c. search needs)
+    (λ c κs. search vector-room)
+    (λ c. search needs) (λ c. search needs)
     -- put-matrix-requires
-    (λ c κs. matrix-room (c .before .before .before .before .before .before .before .pre .1) (c .before .before .before .before .head-at .ensures) (c .before .before .c .given .1))
-    -- add-t30
-    (λ c. search needs)
-    -- enum-known-n-2
-    (λ c. search needs)
+    (λ c κs. search matrix-room)
+    (λ c. search needs) (λ c. search needs)
     -- put-array-requires
-    (λ c κs. array-room (c .before .before .before .before .before .before .before .pre .1) (c .before .before .before .before .head-at .ensures) (c .before .before .n2 .given .1))
-    -- add-write-elements
+    (λ c κs. search array-room)
     (λ c. search needs)
     -- sub-write-elements
-    (λ c. array-deep (c .before .before .before .before .before .before .before .before .before .before .pre .1) (c .before .before .before .before .before .before .before .head-at .ensures) (c .before .before .before .before .before .n2 .given .1))
+    (λ c. search array-deep)
     -- write-elements-requires
     (λ c κs.
     let p = c .before .before .before .before .before .before .before .before .before .before .before .pre .1 in
     let h = c .before .before .before .before .before .before .before .before .head-at .ensures in
     let e = c .before .before .before .before .before .before .n2 .given .1 in
     (omega (arith, c .before .before .before .before .before .before .before .before .before .before .before .pre .0, array-deep p h e), array-parts p h e (c .before .before .before .put-array .ensures) (c .before .before .before .put-array .kept .1 .0)))
-    -- enum-known-i
     (λ c. search needs)
     -- put-struct-requires
-    (λ c κs. struct-room (c .before .before .before .before .before .before .before .pre .1) (c .before .before .before .before .head-at .ensures) (c .before .before .i .given .1))
-    -- add-write-members
+    (λ c κs. search struct-room)
     (λ c. search needs)
     -- sub-write-members
-    (λ c. struct-deep (c .before .before .before .before .before .before .before .before .before .before .pre .1) (c .before .before .before .before .before .before .before .head-at .ensures) (c .before .before .before .before .before .i .given .1))
+    (λ c. search struct-deep)
     -- write-members-requires
     (λ c κs.
     let p = c .before .before .before .before .before .before .before .before .before .before .before .pre .1 in

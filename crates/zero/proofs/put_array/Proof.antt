@@ -1,7 +1,7 @@
 -- The mark, and then the count.
 use native.Mathlib.Omega.{arith}
 use borrow.Author.Needs.{needs}
-use Rattle.conv.proofs.Bytes.{put-put}
+use Rattle.record.proofs.Puts.{put-put}
 use Rattle.zero.specs.Zeros.{arrayFront}
 use Rattle.zero.proofs.Bytes.{array-front-long}
 use Rattle.zero.proofs.put_array.Statement.{statement}
@@ -21,7 +21,5 @@ put-array-spec =
     (λ c κs.
     let m = c .before .before .before .put-mark in
     let b = c .before .before .before .before .before .before in
-    omega (arith, b .pre, array-front-long (b .args .n), m .ensures .end, m .kept .0))
-    -- same-length
-    (λ c. search needs)
-    returns)
+    (tt, omega (arith, b .pre, array-front-long (b .args .n), m .ensures .end, m .kept .0)))
+    (λ c. search needs) returns)

@@ -3,7 +3,7 @@ use mathlib.Core.Path.{_≡_, refl, _∙_}
 use native.Mathlib.Omega.{arith}
 use lib.ListN.{length}
 use Rattle.zero.specs.Zeros.{vectorOf}
-use Rattle.zero.proofs.Left.{Copies, copies-all, copies-room, copies-on, copies-end}
+use Rattle.record.proofs.Left.{Copies, copies-all, copies-room, copies-on, copies-end}
 use Rattle.zero.proofs.put_columns.Statement.{statement}
 use Rattle.zero.proofs.put_columns.Tie as tie
 
@@ -21,10 +21,7 @@ put-columns-spec =
     (λ c. let a = c .before .args in (refl, copies-all (vectorOf (a .r) (a .k)) (a .c) (a .out .now) (a .to)))
     -- put-vector-requires
     (λ c κs. let v = c .before .before .loop .inv in copies-room (v .1) (c .before .loop-test .taken) (omega (arith, c .before .before .before .before .pre, v .0)))
-    -- sub-left
-    (λ c. omega arith)
-    -- loop-less
-    (λ c. omega arith)
+    (λ c. omega arith) (λ c. omega arith)
     -- loop-again
     (λ c.
     let v = c .before .before .before .before .before .loop .inv in

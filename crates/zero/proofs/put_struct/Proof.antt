@@ -2,7 +2,7 @@
 use native.Mathlib.Omega.{arith}
 use borrow.Author.Needs.{needs}
 use Rattle.laws.proofs.Length.{le-len}
-use Rattle.conv.proofs.Bytes.{put-put}
+use Rattle.record.proofs.Puts.{put-put}
 use Rattle.zero.specs.Zeros.{structFront}
 use Rattle.zero.proofs.Bytes.{struct-front-long}
 use Rattle.zero.proofs.put_struct.Statement.{statement}
@@ -24,13 +24,11 @@ put-struct-spec =
     (λ c κs.
     let m = c .before .before .before .put-mark in
     let b = c .before .before .before .before .before .before in
-    omega (arith, b .pre, struct-front-long (b .args .i) (b .args .n), m .ensures .end, m .kept .0))
+    (tt, omega (arith, b .pre, struct-front-long (b .args .i) (b .args .n), m .ensures .end, m .kept .0)))
     -- put-le-requires-2
     (λ c κs.
     let i = c .before .before .before .put-le in
     let m = c .before .before .before .before .before .before .before .put-mark in
     let b = c .before .before .before .before .before .before .before .before .before .before in
-    omega (arith, b .pre, struct-front-long (b .args .i) (b .args .n), m .ensures .end, m .kept .0, i .ensures .end, i .kept .0, le-len 2 (b .args .i)))
-    -- same-length
-    (λ c. search needs)
-    returns)
+    (tt, omega (arith, b .pre, struct-front-long (b .args .i) (b .args .n), m .ensures .end, m .kept .0, i .ensures .end, i .kept .0, le-len 2 (b .args .i))))
+    (λ c. search needs) returns)

@@ -3,7 +3,7 @@ use mathlib.Core.Path.{sym, _∙_}
 use native.Mathlib.Omega.{arith}
 use borrow.Author.Needs.{needs}
 use Rattle.ty.proofs.Lens.{is-len, long-len}
-use Rattle.zero.proofs.Answers.{zero-refused, zero-record}
+use Rattle.zero.proofs.ZeroAnswers.{zero-refused, zero-record}
 use Rattle.zero.proofs.zero_value.Statement.{statement}
 use Rattle.zero.proofs.zero_value.Tie as tie
 
@@ -11,10 +11,7 @@ pub zero-value-spec : {M : Type 1} → statement M
 zero-value-spec =
     tie.close
     (tie.spec
-    -- value-len-requires
-    (λ c κs. search needs)
-    -- enum-known-n
-    (λ c. search needs)
+    (λ c κs. search needs) (λ c. search needs)
     -- returns
     (λ c t w.
     let n = is-len _ _ _ _ (sym (c .before .before .n .given .1) ∙ c .before .before .before .before .value-len .ensures t _ w) in
@@ -24,10 +21,7 @@ zero-value-spec =
     let p = c .before .before .before .before .before .before .before .before .pre in
     let n = is-len _ _ _ _ (sym (c .before .before .before .n .given .1) ∙ c .before .before .before .before .before .value-len .ensures (p .type) _ (p .stands)) in
     record { type = p .type; end = _; stands = p .stands; room = omega (arith, n .1, c .before .if1 .left) })
-    -- enum-told
-    (λ c. search needs)
-    -- same-length
-    (λ c. search needs)
+    (λ c. search needs) (λ c. search needs)
     -- returns-2
     (λ c t w.
     let n = is-len _ _ _ _ (sym (c .before .before .before .before .before .before .n .given .1) ∙ c .before .before .before .before .before .before .before .before .value-len .ensures t _ w) in

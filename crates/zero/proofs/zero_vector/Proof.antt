@@ -2,7 +2,7 @@
 use native.Mathlib.Omega.{arith}
 use borrow.Author.Needs.{needs}
 use Rattle.ty.proofs.Numbers.{kind-of}
-use Rattle.zero.proofs.Answers.{zero-refused, zero-record, vector-bytes, vector-shaped, vector-long}
+use Rattle.zero.proofs.ZeroAnswers.{zero-refused, zero-record, vector-bytes, vector-shaped, vector-long}
 use Rattle.zero.proofs.zero_vector.Statement.{statement}
 use Rattle.zero.proofs.zero_vector.Tie as tie
 
@@ -10,7 +10,6 @@ pub zero-vector-spec : {M : Type 1} → statement M
 zero-vector-spec =
     tie.close
     (tie.spec
-    -- vector-len-requires
     (λ c κs. search needs)
     -- returns
     (λ c j e.
@@ -21,7 +20,6 @@ zero-vector-spec =
     let b = c .before .before .before .before in
     let x = kind-of (b .args .k) (b .pre .1) in
     omega (arith, c .before .before .vector-len .ensures .is (x .kind) (x .no), c .before .if1 .left, vector-long (b .args .n) (x .kind) (x .no) (b .pre .0)))
-    -- same-length
     (λ c. search needs)
     -- returns-2
     (λ c j e.

@@ -1,0 +1,4 @@
+-- what an answer is, by its number and values; refusals; records written at the front of a buffer; records handed over as they stand
+pub mod Told
+pub mod BufferAtExit
+pub mod Handed

@@ -1,0 +1,3 @@
+pub mod Kinds
+pub mod Matrices
+pub mod TypeRows
