@@ -2,6 +2,10 @@
 // between its parts, numbers in decimal, a newline at the end."
 use error::Refusal;
 use error::Written;
+use record::put_byte;
+use record::put_pair;
+use record::put_three;
+use record::wide;
 ghost use mathlib.Core.Path.{_≡_};
 ghost use mathlib.Core.List.{[], _∷_, _++_};
 ghost use Prim.Native.Nat.{_+_, _*_, _/_, _%_, _≤_, _<_};
@@ -20,12 +24,6 @@ pub enum Input {
 }
 
 // ---- the input
-
-fn wide(x: u8) -> usize
-    ensures { λ r. ⌜ (r ≡ x) × (r < 256) ⌝ }
-{
-    x as usize
-}
 
 // "a stage byte, a u16 target length, the target, then arguments (64 KiB in all)"
 pub fn split(input: &[u8]) -> Input
@@ -46,23 +44,12 @@ pub fn split(input: &[u8]) -> Input
 
 // ---- bytes
 
-fn put_byte(b: u8, out: &mut [u8], to: usize) -> usize
-    requires { ⌜ to + 1 ≤ length (now out) ⌝ }
-    ensures { λ r. ⌜ Put (now (out .entry)) to (b ∷ []) r (now (out .exit)) ⌝ }
-{
-    out[to] = b;
-    to + 1
-}
-
 // The line's first part, `ok` or `no`, and the space after it.
 fn put_word(a: u8, b: u8, out: &mut [u8]) -> usize
     requires { ⌜ 3 ≤ length (now out) ⌝ }
     ensures { λ r. ⌜ Put (now (out .entry)) 0 (a ∷ b ∷ 32 ∷ []) r (now (out .exit)) ⌝ }
 {
-    out[0] = a;
-    out[1] = b;
-    out[2] = b' ';
-    3
+    put_three(out, 0, a, b, b' ')
 }
 
 // ---- hex
@@ -78,13 +65,13 @@ fn hex_digit(n: u8) -> u8
 }
 
 // Two digits for a byte, the high one first.
-fn put_pair(b: u8, out: &mut [u8], to: usize) -> usize
+fn put_digits(b: u8, out: &mut [u8], to: usize) -> usize
     requires { ⌜ to + 2 ≤ length (now out) ⌝ }
     ensures { λ r. ⌜ Put (now (out .entry)) to (hexDigit (b / 16) ∷ hexDigit (b % 16) ∷ []) r (now (out .exit)) ⌝ }
 {
-    out[to] = hex_digit(b / 16);
-    out[to + 1] = hex_digit(b % 16);
-    to + 2
+    let high = hex_digit(b / 16);
+    let low = hex_digit(b % 16);
+    put_pair(out, to, high, low)
 }
 
 // "the record in lower-case hex"
@@ -95,7 +82,7 @@ fn put_hex(bytes: &[u8], out: &mut [u8], to: usize) -> usize
     let mut i = 0;
     let mut p = to;
     while i < bytes.len() {
-        p = put_pair(bytes[i], out, p);
+        p = put_digits(bytes[i], out, p);
         i += 1;
     }
     p
@@ -144,7 +131,7 @@ fn put_number(n: u64, after: u8, out: &mut [u8], to: usize) -> usize
     ensures { λ r. ⌜ r ≤ to + 21 ⌝ }
 {
     let p = put_decimal(n, out, to);
-    put_byte(after, out, p)
+    put_byte(out, p, after)
 }
 
 // ---- the line
@@ -156,7 +143,7 @@ fn put_ok(bytes: &[u8], out: &mut [u8]) -> usize
 {
     let p = put_word(b'o', b'k', out);
     let q = put_hex(bytes, out, p);
-    put_byte(b'\n', out, q)
+    put_byte(out, q, b'\n')
 }
 
 fn put_no(n: u8, out: &mut [u8]) -> usize

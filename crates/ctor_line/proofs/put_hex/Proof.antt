@@ -22,7 +22,7 @@ put-hex-spec =
     -- loop-holds
     (λ c. (search needs, left-all _ _ _))
     (λ c. omega arith)
-    -- put-pair-requires
+    -- put-digits-requires
     (λ c κs.
     let l = c .before .before .before .loop in
     let b = c .before .before .before .before .before .before .args .bytes .now in
@@ -31,7 +31,7 @@ put-hex-spec =
     -- loop-again
     (λ c.
     let l = c .before .before .before .before .before .before .loop in
-    (omega arith, left-on (l .inv .1) _ _ (hex-step _ (l .i) (c .before .before .before .before .before .loop-test .taken)) (c .before .before .put-pair .ensures)))
+    (omega arith, left-on (l .inv .1) _ _ (hex-step _ (l .i) (c .before .before .before .before .before .loop-test .taken)) (c .before .before .put-digits .ensures)))
     -- same-length
     (λ c. left-same (c .before .loop .inv .1))
     -- returns
