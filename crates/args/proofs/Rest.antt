@@ -11,7 +11,7 @@ use lib.Seq.{drop-length}
 use Rattle.meaning.specs.Kinds.{Kind}
 use Rattle.meaning.specs.Trees.{Ty, Ts, Val, Target, Of, Tr, Qa, Qv, Qm, typeOf, depth}
 use Rattle.meaning.specs.Records.{tyBytes, valBytes, joined, every, shapedTy, shapedVal, goodWithin, goodTy, goodVal, goodArg, goodTys, goodArgs}
-use Rattle.meaning.specs.Read.{pTy, pVal, readTys, readVals}
+use Rattle.meaning.specs.Read.{pTy, pVal, readTarget, readTys, readVals}
 use Rattle.laws.proofs.Back.{and-l, and-r, shaped-of, deep-of, ty-back}
 use Rattle.laws.proofs.BackVal.{val-back}
 use Rattle.laws.proofs.Same.{both}
@@ -21,12 +21,15 @@ use Rattle.ty.specs.Stands.{Stands}
 use Rattle.record.proofs.Places.{past}
 use Rattle.ty.specs.TypeFronts.{kindNumber}
 use Rattle.ty.proofs.Numbers.{kind-of, is-number}
+use Rattle.ty.specs.Targets.{targetOf, isBad}
+use Rattle.ty.proofs.Targets.{SomeTarget, some-target}
+use Rattle.ty.specs.declared.Target as ty
 use Rattle.inst.specs.Values.{Fits, Typed}
 use Rattle.inst.specs.Reading.{Told, LiteralAt}
 use Rattle.derive.specs.Derives.{LeafFront}
 use Rattle.inst.specs.declared.ValueEnd.{ValueEnd}
 use Rattle.inst.specs.declared.ValueEnd.the-variants.{At, Bad as Unended}
-use Rattle.args.specs.Counts.{isQa, depthFor, bytesFor, argsOf, Rests, Left, ValueArg, TypeArg, Counts, Flat, FlatIs, FlatLeft}
+use Rattle.args.specs.Counts.{isQa, isTight, depthFor, bytesFor, argsOf, Rests, Left, ValueArg, TypeArg, Counts, Flat, FlatIs, FlatLeft}
 use Rattle.args.specs.declared.Args.{Args}
 use Rattle.args.specs.declared.Args.the-variants.{Count, Bad}
 
@@ -212,6 +215,14 @@ flat-left {s} {i} {n} {e} l h f x d m p q =
 
 -- ---- the lists that may stand there are those whose records these are
 
+pub tight-is : (g : Target) {r : ty.Target} → r ≡ targetOf (some g) → isQa g ≡ isTight r
+unfolding targetOf
+tight-is (Of t) q = ap isTight (sym q)
+tight-is (Tr t) q = ap isTight (sym q)
+tight-is Qa q = ap isTight (sym q)
+tight-is (Qv n) q = ap isTight (sym q)
+tight-is (Qm c r) q = ap isTight (sym q)
+
 arg-is : (g : Target) (t : Ty) → goodArg g t ≡ goodWithin (depthFor (isQa g)) (bytesFor (isQa g)) t
 unfolding goodArg goodTy
 arg-is (Of u) t = refl
@@ -312,3 +323,43 @@ module _ (g : Target) where
       (λ l h.
       let x = limit (map typeOf l) (and-r (every goodVal l) (goodTys g (map typeOf l)) h) in
       (all-values l (and-l (every goodVal l) (goodTys g (map typeOf l)) h) (x .0), omega (arith, x .1, length-map l typeOf)))
+
+-- ---- what an answer says, for callers
+
+-- the target that is read, and n arguments for it
+pub record BothRead {A : Type 0} (read : Target → List ℕ → Option (List A)) (target s : List ℕ) (n : ℕ) : Type 0 where
+  pub for : Target
+  pub reads : readTarget target ≡ some for
+  pub items : List A
+  pub given : read for s ≡ some items
+  pub count : n ≡ length items
+
+-- the target that is read, and bad arguments for it
+pub record NoneRead {A : Type 0} (read : Target → List ℕ → Option (List A)) (target s : List ℕ) : Type 0 where
+  pub for : Target
+  pub reads : readTarget target ≡ some for
+  pub bad : read for s ≡ none
+
+module _ {A : Type 0} (read : Target → List ℕ → Option (List A)) (target s : List ℕ) {found : ty.Target} (q : found ≡ targetOf (readTarget target)) (h : isBad found ≡ false) {r : Args}
+    (f : (g : Target) → found ≡ targetOf (some g) → r ≡ argsOf (read g s)) where
+  read-for : SomeTarget target
+  read-for = some-target target q h
+
+  told : r ≡ argsOf (read (read-for .target) s)
+  told = f (read-for .target) (q ∙ ap targetOf (read-for .reads))
+
+  pub both-read : {n : ℕ} → r ≡ Count n → BothRead read target s n
+  unfolding argsOf
+  both-read {n} e = go (read (read-for .target) s) refl (sym e ∙ told)
+    where
+      go : (o : Option (List A)) → read (read-for .target) s ≡ o → Count n ≡ argsOf o → BothRead read target s n
+      go none k p = absurd (let z : _≡_ {A = ℕ} 0 1 = cc in omega arith)
+      go (some l) k p = record { for = read-for .target; reads = read-for .reads; items = l; given = k; count = cc }
+
+  pub none-read : r ≡ Bad → NoneRead read target s
+  unfolding argsOf
+  none-read e = record { for = read-for .target; reads = read-for .reads; bad = go (read (read-for .target) s) (sym e ∙ told) }
+    where
+      go : (o : Option (List A)) → Bad ≡ argsOf o → o ≡ none
+      go none p = refl
+      go (some l) p = absurd (let z : _≡_ {A = ℕ} 0 1 = cc in omega arith)

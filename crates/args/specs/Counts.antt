@@ -9,6 +9,9 @@ use lib.ListN.{length, drop}
 use Rattle.meaning.specs.Trees.{Ty, Val, Target, Of, Tr, Qa, Qv, Qm, typeOf}
 use Rattle.meaning.specs.Records.{tyBytes, valBytes, joined, shapedVal, goodWithin}
 use Rattle.laws.proofs.Sound.{All}
+use Rattle.ty.specs.declared.Target as ty
+use Rattle.ty.specs.declared.Target.the-variants as found
+use Rattle.ty.specs.declared.Target.the-variants.{«Type», Runtime, Array, Vector, Matrix}
 use Rattle.inst.specs.Values.{Typed}
 use Rattle.inst.specs.declared.ValueEnd.{ValueEnd}
 use Rattle.inst.specs.declared.ValueEnd.the-variants as ends
@@ -22,6 +25,15 @@ isQa (Tr t) = false
 isQa Qa = true
 isQa (Qv n) = false
 isQa (Qm c r) = false
+
+-- the same of a target as it is answered
+abbrev pub isTight : ty.Target → Bool
+isTight «Type» = false
+isTight Runtime = false
+isTight Array = true
+isTight (Vector n) = false
+isTight (Matrix c r) = false
+isTight found.Bad = false
 
 abbrev pub depthFor : Bool → ℕ
 depthFor true = 14

@@ -46,3 +46,12 @@ pub record TypeIs (s : List ℕ) (i : ℕ) (v : Val) (l : List Val) (e q : ℕ) 
 
 abbrev pub Types : List ℕ → ℕ → ℕ → ℕ → List ℕ → Type 0
 Types s i e q ty = (v : Val) (l : List Val) → Row s i (v ∷ l) → TypeIs s i v l e q ty
+
+-- the arguments of a call are the values l, n of them
+pub record Given (s : List ℕ) (n : ℕ) (l : List Val) : Type 0 where
+  pub row : Row s 0 l
+  pub count : n ≡ length l
+
+pub record SomeGiven (s : List ℕ) (n : ℕ) : Type 0 where
+  pub values : List Val
+  pub given : Given s n values

@@ -4,14 +4,17 @@ use inst::Derived;
 use inst::ValueEnd;
 use ty::Head;
 use ty::Limit;
+use ty::Target;
 use ty::TypeEnd;
 ghost use mathlib.Core.Path.{_≡_};
+ghost use mathlib.Core.Option.{some};
 ghost use Prim.Native.Nat.{_≤_};
 ghost use lib.ListN.{length};
-ghost use Rattle.meaning.specs.Trees.{Target};
+ghost use Rattle.meaning.specs.Trees as trees;
 ghost use Rattle.meaning.specs.Records.{valBytes, tyBytes};
 ghost use Rattle.meaning.specs.Read.{readVals, readTys};
-ghost use Rattle.args.specs.Counts.{isQa, depthFor, bytesFor, argsOf, Rests, Left, ValueArg, TypeArg, Counts, Flat, FlatLeft};
+ghost use Rattle.ty.specs.Targets.{targetOf};
+ghost use Rattle.args.specs.Counts.{isTight, depthFor, bytesFor, argsOf, Rests, Left, ValueArg, TypeArg, Counts, Flat, FlatLeft};
 ghost use Rattle.args.specs.Row.{SomeArg, HeadOf, Skips, Types};
 
 // ---- how many
@@ -65,7 +68,7 @@ fn literal_end(s: &[u8], at: usize) -> ValueEnd
 fn other_flat_end(s: &[u8], at: usize) -> ValueEnd
     ensures { λ r. ⌜ Flat (now (s .entry)) at r ⌝ }
 {
-    match derive::front_at(s, at, 2) {
+    match derive::value_front(s, at, 2) {
         Front::Scalar(_) => ValueEnd::Bad,
         Front::Vector(n, k) => inst::vector_as(s, at, n, k),
         Front::Matrix(c, r, k) => inst::matrix_as(s, at, c, r, k),
@@ -170,21 +173,37 @@ fn count_types(s: &[u8], depth: u8, most: usize) -> Args
     Args::Count(n)
 }
 
-// How many arguments of a build s is; `tight` where the target is `Qa`.
-pub fn value_args(s: &[u8], tight: bool) -> Args
-    ensures { λ r. ⌜ ((g : Target) → isQa g ≡ tight → r ≡ argsOf (readVals g (now (s .entry)))) ⌝ }
+// Whether the target is `Qa`, whose arguments have tighter limits.
+fn is_tight(found: Target) -> bool
+    ensures { λ r. ⌜ r ≡ isTight found ⌝ }
+{
+    match found {
+        Target::Array => true,
+        Target::Type => false,
+        Target::Runtime => false,
+        Target::Vector(_) => false,
+        Target::Matrix(_, _) => false,
+        Target::Bad => false,
+    }
+}
+
+// How many arguments of a build for that target s is.
+pub fn value_args(s: &[u8], found: Target) -> Args
+    ensures { λ r. ⌜ ((g : trees.Target) → found ≡ targetOf (some g) → r ≡ argsOf (readVals g (now (s .entry)))) ⌝ }
 {
     let flat = flat_args(s);
     if flat.end == s.len() {
         return Args::Count(flat.count);
     }
+    let tight = is_tight(found);
     other_args(s, flat.end, flat.count, depth_for(tight), bytes_for(tight))
 }
 
 // The same of typing, whose arguments are types.
-pub fn type_args(s: &[u8], tight: bool) -> Args
-    ensures { λ r. ⌜ ((g : Target) → isQa g ≡ tight → r ≡ argsOf (readTys g (now (s .entry)))) ⌝ }
+pub fn type_args(s: &[u8], found: Target) -> Args
+    ensures { λ r. ⌜ ((g : trees.Target) → found ≡ targetOf (some g) → r ≡ argsOf (readTys g (now (s .entry)))) ⌝ }
 {
+    let tight = is_tight(found);
     count_types(s, depth_for(tight), bytes_for(tight))
 }
 

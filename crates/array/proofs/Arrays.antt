@@ -49,10 +49,6 @@ module _ {target : List ℕ} {n : ℕ} {t : Ty} (w : Whole target (Ta n t)) wher
   pub array-elem : Stands 14 target 4 t (length target)
   array-elem = let k : parts .elem ≡ t = cc (parts .is) in rw k at (parts .part)
 
-  pub array-most : n ≤ 65535
-  unfolding shapedTy u16
-  array-most = leb→le n 65535 (and-r (leb 1 n) (leb n 65535) (and-l (leb 1 n && leb n 65535) (shapedTy t) (w .shaped)))
-
 -- ---- the array
 
 module _ {args : List ℕ} {count d : ℕ} {ty : List ℕ} {at : ℕ} {t : Ty} {e : ℕ} {l ws : List Val} (x : Elements args count d ty at t e l ws) where
@@ -63,11 +59,11 @@ module _ {args : List ℕ} {count d : ℕ} {ty : List ℕ} {at : ℕ} {t : Ty} {
   good = each-ok l (x .given .row .each)
 
   given : count ≡ countVals (valsOf ws)
-  given = x .given .is ∙ sym (joined-vals ws .1 ∙ all-count t l good (x .goes))
+  given = x .given .count ∙ sym (joined-vals ws .1 ∙ all-count t l good (x .goes))
 
   made : T (shapedVal array-val) × (typeOf array-val ≡ Ta count t)
   made =
-      arr-made count t (valsOf ws) (le→leb 1 count (omega (arith, x .given .is, x .given .least))) (all-shaped t l good (x .goes)) (all-typed t l good (x .goes)) (sym given)
+      arr-made count t (valsOf ws) (le→leb 1 count (x .least)) (all-shaped t l good (x .goes)) (all-typed t l good (x .goes)) (sym given)
 
   record-is : valBytes array-val ≡ (‘V’ ∷ ‘a’ ∷ []) ++ le 2 count ++ joined valBytes ws
   unfolding valBytes le

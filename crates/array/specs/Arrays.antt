@@ -10,22 +10,16 @@ use Rattle.meaning.specs.Convert.{convVal}
 use Rattle.meaning.specs.Build.{arrayOf, runtimeOf, qaOf}
 use Rattle.ty.specs.Stands.{Stands}
 use Rattle.conv.specs.Ranked.{Whole}
-use Rattle.args.specs.Row.{Row}
+use Rattle.args.specs.Row.{Given}
 use Rattle.error.specs.Told.{Builds}
 use Rattle.error.specs.declared.Written.{Written}
-
--- the arguments are the values l, as many as is said, and no more than a record counts
-pub record Given (args : List ℕ) (count : ℕ) (l : List Val) : Type 0 where
-  pub row : Row args 0 l
-  pub is : count ≡ length l
-  pub least : 1 ≤ length l
-  pub most : length l ≤ 65535
 
 -- ---- elements
 
 -- they convert to the type t, whose record stands at `at`, and are ws then
 pub record Elements (args : List ℕ) (count d : ℕ) (ty : List ℕ) (at : ℕ) (t : Ty) (e : ℕ) (l ws : List Val) : Type 0 where
   pub given : Given args count l
+  pub least : 1 ≤ count
   pub stands : Stands d ty at t e
   pub goes : allSome (convVal t) l ≡ some ws
 
@@ -47,13 +41,12 @@ pub record SomeArray (target args : List ℕ) (count : ℕ) : Type 0 where
   pub type : Ty
   pub values : List Val
   pub whole : Whole target (Ta number type)
-  pub row : Row args 0 values
-  pub least : 1 ≤ length values
-  pub given : count ≡ length values
+  pub given : Given args count values
+  pub least : 1 ≤ count
 
 abbrev pub ArrayTold : List ℕ → List ℕ → ℕ → List ℕ → Written → List ℕ → Type 0
 ArrayTold target args count out r out′ =
-    (n : ℕ) (t : Ty) (l : List Val) → Whole target (Ta n t) → Row args 0 l → 1 ≤ length l → count ≡ length l → Builds (arrayOf n t l) out r out′
+    (n : ℕ) (t : Ty) (l : List Val) → Whole target (Ta n t) → Given args count l → Builds (arrayOf n t l) out r out′
 
 -- ---- a runtime-sized array: a `Tr` record, whose element type stands after the mark
 
@@ -62,15 +55,12 @@ pub record SomeRuntime (target args : List ℕ) (count : ℕ) : Type 0 where
   pub values : List Val
   pub whole : Stands 14 target 2 type (length target)
   pub given : Given args count values
+  pub least : 1 ≤ count
 
 abbrev pub RuntimeTold : List ℕ → List ℕ → ℕ → List ℕ → Written → List ℕ → Type 0
 RuntimeTold target args count out r out′ = (t : Ty) (l : List Val) → Stands 14 target 2 t (length target) → Given args count l → Builds (runtimeOf t l) out r out′
 
 -- ---- without a type
-
-pub record SomeQa (args : List ℕ) (count : ℕ) : Type 0 where
-  pub values : List Val
-  pub given : Given args count values
 
 abbrev pub QaTold : List ℕ → ℕ → List ℕ → Written → List ℕ → Type 0
 QaTold args count out r out′ = (l : List Val) → Given args count l → Builds (qaOf l) out r out′

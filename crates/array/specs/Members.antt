@@ -14,7 +14,7 @@ use Rattle.meaning.specs.Build.{memberwise, structOf}
 use Rattle.ty.specs.Stands.{StandAll}
 use Rattle.conv.specs.Ranked.{Whole}
 use Rattle.record.specs.Bytes.{Put}
-use Rattle.args.specs.Row.{Row}
+use Rattle.args.specs.Row.{Row, Given}
 use Rattle.error.specs.Told.{Builds}
 use Rattle.error.specs.declared.Written.{Written}
 use Rattle.array.specs.declared.Member.{Member}
@@ -87,16 +87,16 @@ pub record Struct (target args : List ℕ) (i : ℕ) (m : Tys) (l : List Val) : 
   pub whole : Whole target (Tu i m)
   pub row : Row args 0 l
 
--- and l has as many values as the arguments are said to be
+-- and there are as many of them as is said
 pub record SomeStruct (target args : List ℕ) (count : ℕ) : Type 0 where
   pub identity : ℕ
   pub types : Tys
   pub values : List Val
-  pub struct : Struct target args identity types values
-  pub given : count ≡ length values
+  pub whole : Whole target (Tu identity types)
+  pub given : Given args count values
 
 abbrev pub StructTold : List ℕ → List ℕ → ℕ → List ℕ → Written → List ℕ → Type 0
-StructTold target args count out r out′ = (i : ℕ) (m : Tys) (l : List Val) → Whole target (Tu i m) → Row args 0 l → count ≡ length l → Builds (structOf i m l) out r out′
+StructTold target args count out r out′ = (i : ℕ) (m : Tys) (l : List Val) → Whole target (Tu i m) → Given args count l → Builds (structOf i m l) out r out′
 
 -- the values are as many as the members and convert to them, and are ws then
 pub record Made (target args : List ℕ) (i : ℕ) (m : Tys) (l ws : List Val) : Type 0 where

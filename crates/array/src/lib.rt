@@ -5,8 +5,9 @@ use error::Written;
 use ty::Len;
 use ty::Limit;
 ghost use Prim.Native.Nat.{_≤_, _+_, _*_};
+ghost use Rattle.args.specs.Row.{SomeGiven};
 ghost use Rattle.array.specs.Lengths.{Within};
-ghost use Rattle.array.specs.Arrays.{SomeElements, ElementsTold, SomeArray, ArrayTold, SomeRuntime, RuntimeTold, SomeQa, QaTold};
+ghost use Rattle.array.specs.Arrays.{SomeElements, ElementsTold, SomeArray, ArrayTold, SomeRuntime, RuntimeTold, QaTold};
 ghost use Rattle.array.specs.Members.{SomePairs, SomePair, MemberIs, MembersFit, MembersRoom, MembersPut, IsStruct, CountIs, SomeStruct, StructTold, SomeMade, MadeTold};
 
 // Where an argument that converts to its member's type ends, and where the record of that type does; or that it does not convert.
@@ -93,7 +94,7 @@ pub fn runtime_of(target: &[u8], args: &[u8], count: usize, out: &mut [u8]) -> W
 
 // An array of the arguments without a type: "`Qa`: 11, then 10", the 10 where there is no common type or a literal does not fit it.
 pub fn qa_of(args: &[u8], count: usize, out: &mut [u8]) -> Written
-    requires { ⌜ SomeQa (now args) count ⌝ }
+    requires { ⌜ (1 ≤ count) × SomeGiven (now args) count ⌝ }
     ensures { λ r. ⌜ QaTold (now (args .entry)) count (now (out .entry)) r (now (out .exit)) ⌝ }
 {
     let mut ty = [0u8; Limit::TYPE_BYTES];

@@ -13,18 +13,21 @@ use Rattle.meaning.specs.Trees.{Ty, Tv, Tm, Val, Target, typeOf}
 use Rattle.meaning.specs.Records.{every, side, shapedTy, shapedVal, goodTy, goodVal, goodArg, goodTys, goodArgs}
 use Rattle.meaning.specs.Read.{readTarget, readVals}
 use Rattle.meaning.specs.Answers.{no}
+use Rattle.meaning.specs.Build.{build}
 use Rattle.meaning.specs.Entries.{stageOf, buildAnswer}
 use Rattle.laws.proofs.Back.{and-l, and-r}
 use Rattle.laws.proofs.Sound.{All, Bytes}
 use Rattle.laws.proofs.Exact.{vals-exact}
 use Rattle.ty.specs.TypeFronts.{floatNumber}
 use Rattle.ty.proofs.Numbers.{float-number}
-use Rattle.args.specs.Counts.{ValueArg, argsOf}
-use Rattle.args.specs.declared.Args.the-variants.{Count, Bad}
+use Rattle.args.specs.Counts.{ValueArg}
 use Rattle.conv.specs.Ranked.{Whole}
+use Rattle.error.specs.Told.{Told, Builds}
 use Rattle.error.specs.declared.Written.{Written}
 use Rattle.error.proofs.Told.{told-as}
-use Rattle.builtin.specs.Calls.{Given, SomeGiven, BuildsOf, Answers, buildRead, buildAt}
+use Rattle.args.specs.Row.{Given}
+use Rattle.args.proofs.Rest.{BothRead, NoneRead}
+use Rattle.builtin.specs.Calls.{buildTarget, buildAt}
 
 -- ---- the stage, and the target
 
@@ -35,17 +38,18 @@ module _ (stage : ℕ) (target args : List ℕ) (room : ℕ) where
   no-stage e = rw e
 
   pub staged-answer : {s : Stage} → stageOf stage ≡ some s → buildAnswer stage target args room ≡ buildAt s target args room
-  unfolding buildAnswer buildAt buildRead
+  unfolding buildAnswer buildAt
   staged-answer e = rw e
 
-module _ (s : Stage) (target args : List ℕ) (room : ℕ) where
-  pub no-target : readTarget target ≡ none → buildAt s target args room ≡ no 1
-  unfolding buildAt
-  no-target e = rw e
+-- the constructor of the target that is read
+module _ (s : Stage) (target : List ℕ) (l : List Val) where
+  pub target-none : readTarget target ≡ none → buildTarget s target l ≡ no 1
+  unfolding buildTarget
+  target-none e = rw e
 
-  pub read-answer : {g : Target} → readTarget target ≡ some g → buildAt s target args room ≡ buildRead s g args room
-  unfolding buildAt
-  read-answer e = rw e
+  pub target-builds : {g : Target} → readTarget target ≡ some g → buildTarget s target l ≡ build s g l
+  unfolding buildTarget
+  target-builds e = rw e
 
 -- ---- the sides of a vector's and of a matrix's type
 
@@ -71,47 +75,27 @@ good-each (v ∷ l) h =
     let g = and-l (goodVal v) (every goodVal l) h in
     ((and-l (shapedVal v) (goodTy (typeOf v)) g, and-r (shapedVal v) (goodTy (typeOf v)) g), good-each l (and-r (goodVal v) (every goodVal l) h))
 
-good-few : (g : Target) (l : List Val) → T (goodArgs g l) → length l ≤ 65535
-unfolding goodArgs goodTys
-good-few g l h =
-    let i = and-r (every (goodArg g) (map typeOf l)) (leb (length (map typeOf l)) 65535) (and-r (every goodVal l) (goodTys g (map typeOf l)) h) in
-    omega (arith, leb→le (length (map typeOf l)) 65535 i, length-map l typeOf)
+pub read-given : {target : List ℕ} (s : List ℕ) (b : Bytes s) {n : ℕ} (x : BothRead readVals target s n) → Given s n (x .items)
+unfolding goodArgs
+read-given s b x =
+    let l = x .items in
+    let y = vals-exact (x .for) .sound s l b (x .given) in
+    record { row = record { within = omega arith; here = y .0; each = good-each l (and-l (every goodVal l) (goodTys (x .for) (map typeOf l)) (y .1)) }; count = x .count }
 
-module _ (g : Target) (s : List ℕ) (b : Bytes s) where
-  pub record Reads (n : ℕ) : Type 0 where
-    pub values : List Val
-    pub reads : readVals g s ≡ some values
-    pub given : Given s n values
+-- ---- the answer
 
-  pub counted : {n : ℕ} → Count n ≡ argsOf (readVals g s) → Reads n
-  unfolding argsOf goodArgs
-  counted {n} q = go (readVals g s) refl q
-    where
-      go : (o : Option (List Val)) → readVals g s ≡ o → Count n ≡ argsOf o → Reads n
-      go none e q = absurd (let z : _≡_ {A = ℕ} 0 1 = cc in omega arith)
-      go (some l) e q =
-          let y = vals-exact g .sound s l b e in
-          let c : n ≡ length l = cc in
-          record {
-            values = l;
-            reads = e;
-            given = record { row = record { within = omega arith; here = y .0; each = good-each l (and-l (every goodVal l) (goodTys g (map typeOf l)) (y .1)) }; count = c; few = omega (arith, good-few g l (y .1)) };
-          }
+module _ (s : Stage) (target args : List ℕ) where
+  -- "1 bad target record"
+  pub no-target : (room : ℕ) → readTarget target ≡ none → buildAt s target args room ≡ no 1
+  unfolding buildAt
+  no-target room e = rw e
 
   -- "2 bad argument"
-  pub no-args : (st : Stage) (room : ℕ) → Bad ≡ argsOf (readVals g s) → buildRead st g s room ≡ no 2
-  unfolding argsOf buildRead
-  no-args st room q = rw (go (readVals g s) q)
-    where
-      go : (o : Option (List Val)) → Bad ≡ argsOf o → o ≡ none
-      go none q = refl
-      go (some l) q = absurd (let z : _≡_ {A = ℕ} 0 1 = cc in omega arith)
+  pub no-args : (room : ℕ) → NoneRead readVals target args → buildAt s target args room ≡ no 2
+  unfolding buildAt
+  no-args room x = rw (x .reads, x .bad)
 
-  module _ (st : Stage) {n : ℕ} (x : Reads n) where
-    -- what is built of the arguments is the answer
-    pub read-builds : {out out′ : List ℕ} {r : Written} → BuildsOf st g s n out r out′ → Answers st g s out r out′
-    unfolding buildRead
-    read-builds f = told-as (rw (x .reads)) (f (x .values) (x .given))
-
-  pub some-given : {n : ℕ} → Reads n → SomeGiven s n
-  some-given x = record { values = x .values; given = x .given }
+  -- what is made of the arguments
+  pub read-builds : {n : ℕ} (x : BothRead readVals target args n) {out out′ : List ℕ} {r : Written} → Builds (buildTarget s target (x .items)) out r out′ → Told (buildAt s target args (length out)) out r out′
+  unfolding buildAt buildTarget
+  read-builds x b = told-as (rw (x .reads, x .given)) b

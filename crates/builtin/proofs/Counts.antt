@@ -10,13 +10,11 @@ use Rattle.meaning.specs.Scalars.{Stage}
 use Rattle.meaning.specs.Trees.{Ty, Ts, Ta, Tu, Tys, Tr, Qa, Val, Of}
 use Rattle.meaning.specs.Answers.{Result, no}
 use Rattle.meaning.specs.Build.{build, buildOne, buildMore, arrayOf, structOf, runtimeOf, qaOf}
-use Rattle.args.specs.Row.{Row}
+use Rattle.args.specs.Row.{Row, Given, SomeGiven}
 use Rattle.error.specs.Told.{Builds}
 use Rattle.error.specs.declared.Written.{Written}
 use Rattle.scalar.specs.Made.{OneArg}
-use Rattle.array.specs.Arrays as arrays
 use Rattle.matrix.specs.MatrixRules as matrices
-use Rattle.builtin.specs.Calls.{Given, SomeGiven}
 
 module _ (P : List Val → Type 0) {args : List ℕ} {n : ℕ} (l : List Val) (g : Given args n l) where
   pub on-none : n ≡ 0 → P [] → P l
@@ -57,11 +55,8 @@ module _ (f : List Val → Result Val) {args : List ℕ} {n : ℕ} (l : List Val
 pub one-given : {args : List ℕ} {n : ℕ} → SomeGiven args n → n ≡ 1 → OneArg args
 one-given {args} x h = on-one (λ m. OneArg args) (x .values) (x .given) h (λ v w. record { value = v; row = w })
 
--- at least one, as arrays and matrices ask for them
-pub array-given : {args : List ℕ} {n : ℕ} {l : List Val} → Given args n l → 1 ≤ n → arrays.Given args n l
-array-given g h = let c = g .count in record { row = g .row; is = c; least = omega arith; most = omega (arith, g .few) }
-
-pub more-given : {args : List ℕ} {n : ℕ} (l : List Val) → Given args n l → 1 ≤ n → matrices.SomeGiven args n
+-- at least one, as matrices ask for them
+pub more-given : {args : List ℕ} {n : ℕ} (l : List Val) → Given args n l → 1 ≤ n → matrices.SomeFirst args n
 more-given [] g h = absurd (omega (arith, g .count))
 more-given (v ∷ l) g h = record { value = v; others = l; row = g .row; size = g .count }
 
@@ -75,24 +70,24 @@ unfolding buildMore
 more-concrete k h v l = rw h
 
 -- an array, a struct and the shape of an array are built alike from one argument and from more
-pub array-build : (s : Stage) (n : ℕ) (t : Ty) (l : List Val) → 1 ≤ length l → build s (Of (Ta n t)) l ≡ arrayOf n t l
+pub array-build : (s : Stage) (n : ℕ) (t : Ty) (l : List Val) → {c : ℕ} → c ≡ length l → 1 ≤ c → build s (Of (Ta n t)) l ≡ arrayOf n t l
 unfolding build buildOne buildMore
-array-build s n t [] h = absurd (omega arith)
-array-build s n t (v ∷ []) h = refl
-array-build s n t (v ∷ u ∷ l) h = refl
+array-build s n t [] e h = absurd (omega arith)
+array-build s n t (v ∷ []) e h = refl
+array-build s n t (v ∷ u ∷ l) e h = refl
 
-pub struct-build : (s : Stage) (i : ℕ) (m : Tys) (l : List Val) → 1 ≤ length l → build s (Of (Tu i m)) l ≡ structOf i m l
+pub struct-build : (s : Stage) (i : ℕ) (m : Tys) (l : List Val) → {c : ℕ} → c ≡ length l → 1 ≤ c → build s (Of (Tu i m)) l ≡ structOf i m l
 unfolding build buildOne buildMore
-struct-build s i m [] h = absurd (omega arith)
-struct-build s i m (v ∷ []) h = refl
-struct-build s i m (v ∷ u ∷ l) h = refl
+struct-build s i m [] e h = absurd (omega arith)
+struct-build s i m (v ∷ []) e h = refl
+struct-build s i m (v ∷ u ∷ l) e h = refl
 
-pub runtime-build : (s : Stage) (t : Ty) (l : List Val) → 1 ≤ length l → build s (Tr t) l ≡ runtimeOf t l
+pub runtime-build : (s : Stage) (t : Ty) (l : List Val) → {c : ℕ} → c ≡ length l → 1 ≤ c → build s (Tr t) l ≡ runtimeOf t l
 unfolding build
-runtime-build s t [] h = absurd (omega arith)
-runtime-build s t (v ∷ l) h = refl
+runtime-build s t [] e h = absurd (omega arith)
+runtime-build s t (v ∷ l) e h = refl
 
-pub qa-build : (s : Stage) (l : List Val) → 1 ≤ length l → build s Qa l ≡ qaOf l
+pub qa-build : (s : Stage) (l : List Val) → {c : ℕ} → c ≡ length l → 1 ≤ c → build s Qa l ≡ qaOf l
 unfolding build
-qa-build s [] h = absurd (omega arith)
-qa-build s (v ∷ l) h = refl
+qa-build s [] e h = absurd (omega arith)
+qa-build s (v ∷ l) e h = refl

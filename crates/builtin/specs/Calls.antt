@@ -1,34 +1,22 @@
 -- What the steps of a build are asked, and what they answer.
 use mathlib.Core.Path.{_≡_}
 use mathlib.Core.List.{List}
-use Prim.Native.Nat.{ℕ, _≤_}
+use Prim.Native.Nat.{ℕ}
 use lib.ListN.{length}
 use Rattle.meaning.specs.Kinds.{Kind, kindNo}
 use Rattle.meaning.specs.Scalars.{Stage}
 use Rattle.meaning.specs.Trees.{Ty, Val, Target, Of, Tr}
 use Rattle.meaning.specs.Read.{readTarget, readVals}
-use Rattle.meaning.specs.Answers.{Answer, orNo, _>>=_}
+use Rattle.meaning.specs.Answers.{Result, Answer, orNo, _>>=_}
 use Rattle.meaning.specs.Build.{build}
 use Rattle.meaning.specs.Entries.{handVal}
 use Rattle.literal.specs.LiteralAnswers.{rulesOf}
 use Rattle.literal.specs.declared.Rules.{Rules}
 use Rattle.ty.specs.Stands.{Stands}
 use Rattle.conv.specs.Ranked.{Whole}
-use Rattle.args.specs.Row.{Row}
+use Rattle.args.specs.Row.{Given}
 use Rattle.error.specs.Told.{Told, Builds}
 use Rattle.error.specs.declared.Written.{Written}
-
--- ---- the arguments, once they are read
-
--- the n values l, one after another; "at most 65,535"
-pub record Given (args : List ℕ) (n : ℕ) (l : List Val) : Type 0 where
-  pub row : Row args 0 l
-  pub count : n ≡ length l
-  pub few : n ≤ 65535
-
-pub record SomeGiven (args : List ℕ) (n : ℕ) : Type 0 where
-  pub values : List Val
-  pub given : Given args n values
 
 -- ---- the target, once it is read
 
@@ -55,29 +43,18 @@ RuntimeBuilt target args n out r out′ = (s : Stage) (t : Ty) → Stands 14 tar
 abbrev pub ShapeBuilt : Target → List ℕ → ℕ → List ℕ → Written → List ℕ → Type 0
 ShapeBuilt g args n out r out′ = (s : Stage) → BuildsOf s g args n out r out′
 
--- ---- before the arguments are read
+-- for the target that the bytes are: "1 bad target record"
+unfoldable pub buildTarget : Stage → List ℕ → List Val → Result Val
+buildTarget s target l = orNo 1 (readTarget target) >>= λ g. build s g l
 
--- what is answered once the stage and the target are
-unfoldable pub buildRead : Stage → Target → List ℕ → ℕ → Answer
-buildRead s g args room = orNo 2 (readVals g args) >>= λ l. build s g l >>= handVal room
+abbrev pub TargetBuilt : Rules → List ℕ → List ℕ → ℕ → List ℕ → Written → List ℕ → Type 0
+TargetBuilt rules target args n out r out′ = (s : Stage) (l : List Val) → rules ≡ rulesOf s → Given args n l → Builds (buildTarget s target l) out r out′
 
-abbrev pub Answers : Stage → Target → List ℕ → List ℕ → Written → List ℕ → Type 0
-Answers s g args out r out′ = Told (buildRead s g args (length out)) out r out′
-
-abbrev pub TypeAnswers : Rules → List ℕ → List ℕ → List ℕ → Written → List ℕ → Type 0
-TypeAnswers rules target args out r out′ = (s : Stage) (t : Ty) → rules ≡ rulesOf s → Whole target t → Answers s (Of t) args out r out′
-
-abbrev pub RuntimeAnswers : List ℕ → List ℕ → List ℕ → Written → List ℕ → Type 0
-RuntimeAnswers target args out r out′ = (s : Stage) (t : Ty) → Stands 14 target 2 t (length target) → Answers s (Tr t) args out r out′
-
-abbrev pub ShapeAnswers : Target → List ℕ → List ℕ → Written → List ℕ → Type 0
-ShapeAnswers g args out r out′ = (s : Stage) → Answers s g args out r out′
-
--- ---- before the target is read
+-- ---- before they are read
 
 -- what is answered once the stage is
 unfoldable pub buildAt : Stage → List ℕ → List ℕ → ℕ → Answer
-buildAt s target args room = orNo 1 (readTarget target) >>= λ g. buildRead s g args room
+buildAt s target args room = orNo 1 (readTarget target) >>= λ g. orNo 2 (readVals g args) >>= λ l. build s g l >>= handVal room
 
 abbrev pub TargetAnswers : Rules → List ℕ → List ℕ → List ℕ → Written → List ℕ → Type 0
 TargetAnswers rules target args out r out′ = (s : Stage) → rules ≡ rulesOf s → Told (buildAt s target args (length out)) out r out′

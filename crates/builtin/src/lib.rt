@@ -16,10 +16,12 @@ ghost use Rattle.meaning.specs.Records.{side};
 ghost use Rattle.meaning.specs.Entries.{buildAnswer};
 ghost use Rattle.literal.specs.LiteralAnswers.{SomeStage};
 ghost use Rattle.ty.specs.TypeFronts.{floatNumber};
+ghost use Rattle.ty.specs.Targets.{Meant};
+ghost use Rattle.args.specs.Row.{SomeGiven};
 ghost use Rattle.conv.specs.Ranked.{OneType};
 ghost use Rattle.error.specs.Told.{Told};
 ghost use Rattle.scalar.specs.Made.{SomeKind};
-ghost use Rattle.builtin.specs.Calls.{SomeGiven, IsRuntime, TypeBuilt, LeafBuilt, RuntimeBuilt, ShapeBuilt, TypeAnswers, RuntimeAnswers, ShapeAnswers, TargetAnswers};
+ghost use Rattle.builtin.specs.Calls.{IsRuntime, TypeBuilt, LeafBuilt, RuntimeBuilt, ShapeBuilt, TargetBuilt, TargetAnswers};
 
 // ---- the arguments are read: at least one, or none
 
@@ -127,71 +129,44 @@ fn matrix_given(c: u8, r: u8, args: &[u8], count: usize, out: &mut [u8]) -> Writ
     matrix::qm_parts(c, r, args, count, out)
 }
 
-// ---- the target is read, the arguments are not
+// ---- the target and the arguments are read
 
-fn type_call(rules: Rules, target: &[u8], args: &[u8], out: &mut [u8]) -> Written
-    requires { ⌜ SomeStage rules × OneType (now target) ⌝ }
-    ensures { λ r. ⌜ TypeAnswers rules (now (target .entry)) (now (args .entry)) (now (out .entry)) r (now (out .exit)) ⌝ }
+// By the target.
+fn target_given(
+    rules: Rules,
+    found: Target,
+    target: &[u8],
+    args: &[u8],
+    count: usize,
+    out: &mut [u8],
+) -> Written
+    requires { ⌜ SomeStage rules × Meant (now target) found × SomeGiven (now args) count ⌝ }
+    ensures { λ x. ⌜ TargetBuilt rules (now (target .entry)) (now (args .entry)) count (now (out .entry)) x (now (out .exit)) ⌝ }
 {
-    match args::value_args(args, false) {
-        Args::Count(n) => type_given(rules, target, args, n, out),
-        Args::Bad => Written::Refused(Refusal::BAD_ARGUMENT),
-    }
-}
-
-fn runtime_call(target: &[u8], args: &[u8], out: &mut [u8]) -> Written
-    requires { ⌜ IsRuntime (now target) ⌝ }
-    ensures { λ r. ⌜ RuntimeAnswers (now (target .entry)) (now (args .entry)) (now (out .entry)) r (now (out .exit)) ⌝ }
-{
-    match args::value_args(args, false) {
-        Args::Count(n) => runtime_given(target, args, n, out),
-        Args::Bad => Written::Refused(Refusal::BAD_ARGUMENT),
-    }
-}
-
-fn array_call(args: &[u8], out: &mut [u8]) -> Written
-    ensures { λ r. ⌜ ShapeAnswers Qa (now (args .entry)) (now (out .entry)) r (now (out .exit)) ⌝ }
-{
-    match args::value_args(args, true) {
-        Args::Count(n) => array_given(args, n, out),
-        Args::Bad => Written::Refused(Refusal::BAD_ARGUMENT),
-    }
-}
-
-fn vector_call(n: u8, args: &[u8], out: &mut [u8]) -> Written
-    requires { ⌜ T (side n) ⌝ }
-    ensures { λ r. ⌜ ShapeAnswers (Qv n) (now (args .entry)) (now (out .entry)) r (now (out .exit)) ⌝ }
-{
-    match args::value_args(args, false) {
-        Args::Count(m) => vector_given(n, args, m, out),
-        Args::Bad => Written::Refused(Refusal::BAD_ARGUMENT),
-    }
-}
-
-fn matrix_call(c: u8, r: u8, args: &[u8], out: &mut [u8]) -> Written
-    requires { ⌜ T (side c) × T (side r) ⌝ }
-    ensures { λ x. ⌜ ShapeAnswers (Qm c r) (now (args .entry)) (now (out .entry)) x (now (out .exit)) ⌝ }
-{
-    match args::value_args(args, false) {
-        Args::Count(n) => matrix_given(c, r, args, n, out),
-        Args::Bad => Written::Refused(Refusal::BAD_ARGUMENT),
+    match found {
+        Target::Type => type_given(rules, target, args, count, out),
+        Target::Runtime => runtime_given(target, args, count, out),
+        Target::Array => array_given(args, count, out),
+        Target::Vector(n) => vector_given(n, args, count, out),
+        Target::Matrix(c, r) => matrix_given(c, r, args, count, out),
+        Target::Bad => Written::Refused(Refusal::BAD_TARGET),
     }
 }
 
 // ---- the stage is read
 
-// By the target: "Order: 3, 1, 2, then the order above, then 22".
+// "Order: 3, 1, 2, then the order above, then 22".
 fn target_call(rules: Rules, target: &[u8], args: &[u8], out: &mut [u8]) -> Written
     requires { ⌜ SomeStage rules ⌝ }
     ensures { λ r. ⌜ TargetAnswers rules (now (target .entry)) (now (args .entry)) (now (out .entry)) r (now (out .exit)) ⌝ }
 {
-    match ty::read_target(target) {
-        Target::Type => type_call(rules, target, args, out),
-        Target::Runtime => runtime_call(target, args, out),
-        Target::Array => array_call(args, out),
-        Target::Vector(n) => vector_call(n, args, out),
-        Target::Matrix(c, r) => matrix_call(c, r, args, out),
-        Target::Bad => Written::Refused(Refusal::BAD_TARGET),
+    let found = ty::read_target(target);
+    if ty::is_bad(found) {
+        return Written::Refused(Refusal::BAD_TARGET);
+    }
+    match args::value_args(args, found) {
+        Args::Count(n) => target_given(rules, found, target, args, n, out),
+        Args::Bad => Written::Refused(Refusal::BAD_ARGUMENT),
     }
 }
 

@@ -2,11 +2,6 @@
 use error::Refusal;
 use error::Written;
 use shape::Shape;
-ghost use mathlib.Core.List.{[], _∷_};
-ghost use Prim.Native.Nat.{_≤_};
-ghost use lib.ListN.{length};
-ghost use Rattle.meaning.specs.Records.{‘V’, ‘m’};
-ghost use Rattle.record.specs.Bytes.{Put};
 ghost use Rattle.columns.specs.Columns.{SomeFront, SkipsTo, ColumnRoom, ColumnPut, Scalars, ScalarsRoom, ScalarsPut, Vectors, RoomFor, SomeMatrix, Hands};
 ghost use Rattle.columns.specs.ColumnParts.{SomeParts, PartsMade};
 
@@ -29,9 +24,8 @@ fn put_column(args: &[u8], i: usize, e: usize, r: u8, k: u8, out: &mut [u8], to:
     requires { ⌜ ColumnRoom k r (now args) i e (now out) to ⌝ }
     ensures { λ x. ⌜ ColumnPut k r (now (args .entry)) i e (now (out .entry)) to x (now (out .exit)) ⌝ }
 {
-    let p = record::put_mark(out, to, b'v');
-    out[p] = r;
-    conv::convert(args, i, e, k, out, p + 1)
+    let p = record::put_three(out, to, b'V', b'v', r);
+    conv::convert_items(args, i, e, k, out, p)
 }
 
 // The scalars as columns, r of them in each.
@@ -51,17 +45,6 @@ fn put_columns(c: u8, r: u8, k: u8, args: &[u8], out: &mut [u8], to: usize) -> u
     p
 }
 
-// The mark of a matrix, its columns and its rows.
-fn put_matrix_front(c: u8, r: u8, out: &mut [u8]) -> usize
-    requires { ⌜ 4 ≤ length (now out) ⌝ }
-    ensures { λ x. ⌜ Put (now (out .entry)) 0 (‘V’ ∷ ‘m’ ∷ c ∷ r ∷ []) x (now (out .exit)) ⌝ }
-{
-    let p = record::put_mark(out, 0, b'm');
-    out[p] = c;
-    out[p + 1] = r;
-    p + 2
-}
-
 // Whether the record of such a matrix is at most `room` bytes long: "22 the accepted record is longer than the lent buffer".
 pub fn room_for(c: u8, r: u8, k: u8, room: usize) -> bool
     ensures { λ x. ⌜ RoomFor c r k room x ⌝ }
@@ -77,7 +60,7 @@ fn write_scalars(c: u8, r: u8, k: u8, args: &[u8], out: &mut [u8]) -> Written
     if !room_for(c, r, k, out.len()) {
         return Written::Refused(Refusal::NO_ROOM);
     }
-    let p = put_matrix_front(c, r, out);
+    let p = record::put_four(out, 0, b'V', b'm', c, r);
     Written::Record(put_columns(c, r, k, args, out, p))
 }
 
@@ -89,8 +72,8 @@ fn write_vectors(c: u8, r: u8, k: u8, args: &[u8], out: &mut [u8]) -> Written
     if !room_for(c, r, k, out.len()) {
         return Written::Refused(Refusal::NO_ROOM);
     }
-    let p = put_matrix_front(c, r, out);
-    Written::Record(conv::convert(args, 0, args.len(), k, out, p))
+    let p = record::put_four(out, 0, b'V', b'm', c, r);
+    Written::Record(conv::convert_items(args, 0, args.len(), k, out, p))
 }
 
 // The matrix of arguments that convert to the kind k, whose type is the one that `ty` is, but for its kind.

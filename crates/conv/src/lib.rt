@@ -226,7 +226,7 @@ pub fn fits(src: &[u8], from: usize, end: usize, k: u8) -> bool
 
 // The items from `from` up to `end`, each literal converted to the kind k. A literal of another kind may be of another length, so the places in the source and in
 // the result go each its own way.
-pub fn convert(src: &[u8], from: usize, end: usize, k: u8, out: &mut [u8], to: usize) -> usize
+pub fn convert_items(src: &[u8], from: usize, end: usize, k: u8, out: &mut [u8], to: usize) -> usize
     requires { ⌜ Convertible k (now src) from end (now out) to ⌝ }
     ensures { λ r. ⌜ Converts k (now (src .entry)) from end (now (out .entry)) to r (now (out .exit)) ⌝ }
 {
@@ -268,7 +268,7 @@ pub fn write_converted(
     ensures { λ r. ⌜ ValuePut depth (now (target .entry)) at (now (src .entry)) from end (now (out .entry)) to r (now (out .exit)) ⌝ }
 {
     match ty::leaf_at(target, at, depth) {
-        Leaf::Kind(k) => convert(src, from, end, k, out, to),
+        Leaf::Kind(k) => convert_items(src, from, end, k, out, to),
         Leaf::Struct => record::copy(src, from, end, out, to),
     }
 }

@@ -175,7 +175,7 @@ pub fn write_all(
     ensures { λ r. ⌜ AllPut (now (args .entry)) from depth (now (ty .entry)) at (now (out .entry)) to r (now (out .exit)) ⌝ }
 {
     match ty::leaf_at(ty, at, depth) {
-        Leaf::Kind(k) => conv::convert(args, from, args.len(), k, out, to),
+        Leaf::Kind(k) => conv::convert_items(args, from, args.len(), k, out, to),
         Leaf::Struct => record::copy(args, from, args.len(), out, to),
     }
 }

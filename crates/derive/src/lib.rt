@@ -121,7 +121,7 @@ fn struct_front(s: &[u8], at: usize, depth: u8) -> Front
 }
 
 // The front of the value that stands at `at`, if one does.
-pub fn front_at(s: &[u8], at: usize, depth: u8) -> Front
+pub fn value_front(s: &[u8], at: usize, depth: u8) -> Front
     ensures { λ r. ⌜ FrontIs depth (now (s .entry)) at r ⌝ }
 {
     if record::room(s, at) < 3 {
@@ -246,7 +246,7 @@ fn derive_members(s: &[u8], at: usize, n: u16, ty: &mut [u8], o: usize, depth: u
 pub fn derive(s: &[u8], at: usize, ty: &mut [u8], o: usize, depth: u8) -> Derived
     ensures { λ r. ⌜ Derives depth (now (s .entry)) at (now (ty .entry)) o r (now (ty .exit)) ⌝ }
 {
-    let f = front_at(s, at, depth);
+    let f = value_front(s, at, depth);
     match put_type_front(ty, o, f) {
         ValueEnd::At(p) => match f {
             Front::Scalar(_) => inst::value_as(s, at, ty, o, depth),
@@ -285,7 +285,7 @@ pub fn value_end(s: &[u8], at: usize, depth: u8) -> usize
     requires { ⌜ Having depth (now s) at ⌝ }
     ensures { λ r. ⌜ EndsAt depth (now (s .entry)) at r ⌝ }
 {
-    match front_at(s, at, depth) {
+    match value_front(s, at, depth) {
         Front::Scalar(k) => at + record::literal_len(k),
         Front::Vector(n, k) => at + ty::vector_len(n, k),
         Front::Matrix(c, r, k) => at + ty::matrix_len(c, r, k),

@@ -43,7 +43,7 @@ fn power(k: u64) -> u64
 }
 
 // The k low bits of x.
-fn low(x: u64, k: u64) -> u64
+fn low_bits(x: u64, k: u64) -> u64
     requires { ⌜ k < 64 ⌝ }
     ensures { λ r. ⌜ r ≡ x % 2 ^ k ⌝ }
 {
@@ -63,7 +63,7 @@ fn field(p: u64, w: u64, x: u64) -> u64
     requires { ⌜ (1 ≤ p) × (p ≤ 53) × (w ≤ 11) ⌝ }
     ensures { λ r. ⌜ r ≡ x / hid p % 2 ^ w ⌝ }
 {
-    low(x >> (p - 1), w)
+    low_bits(x >> (p - 1), w)
 }
 
 // The sign's bit.
@@ -99,7 +99,7 @@ fn unpack(p: u64, emax: u64, w: u64, x: u64) -> Parts
 {
     let s = sign(p, emax, true) <= x;
     let f = field(p, w, x);
-    let t = low(x, p - 1);
+    let t = low_bits(x, p - 1);
     if f == 2 * emax + 1 {
         if t == 0 {
             return Parts::Inf(s);
@@ -162,7 +162,7 @@ fn round_shift(m: u64, sh: u64) -> u64
         return 0;
     }
     let q = m >> sh;
-    let rest = low(m, sh);
+    let rest = low_bits(m, sh);
     // at a tie an odd q is left, and an even one kept
     if rest + (q & 1) > half { q + 1 } else { q }
 }

@@ -21,7 +21,7 @@ use Rattle.error.specs.Told.{Builds}
 use Rattle.error.specs.declared.Written.{Written}
 
 -- at least one argument, and how many there are
-pub record SomeGiven (s : List ℕ) (count : ℕ) : Type 0 where
+pub record SomeFirst (s : List ℕ) (count : ℕ) : Type 0 where
   pub value : Val
   pub others : List Val
   pub row : Row s 0 (value ∷ others)

@@ -17,7 +17,7 @@ ghost use Rattle.literal.specs.LiteralAnswers.{SomeStage};
 ghost use Rattle.ty.specs.Stands.{Standing};
 ghost use Rattle.ty.specs.TypeFronts.{floatNumber};
 ghost use Rattle.scalar.specs.Made.{OneArg};
-ghost use Rattle.matrix.specs.MatrixRules.{SomeGiven, FirstAs, SomeTo, ToMade, MatParts, SomeTyped, QmMade, QmParts, SomeMatrixArg, Remade, MatOne, QmOne};
+ghost use Rattle.matrix.specs.MatrixRules.{SomeFirst, FirstAs, SomeTo, ToMade, MatParts, SomeTyped, QmMade, QmParts, SomeMatrixArg, Remade, MatOne, QmOne};
 
 // Whether the matrix that the arguments are has c columns and r rows.
 fn same_size(c: u8, r: u8, args: &[u8]) -> bool
@@ -56,7 +56,7 @@ fn mat_by(
     out: &mut [u8],
 ) -> Written
     requires { ⌜ T (floatNumber k) ⌝ }
-    requires { ⌜ SomeGiven (now args) count ⌝ }
+    requires { ⌜ SomeFirst (now args) count ⌝ }
     requires { ⌜ FirstAs k j (now ty) (now args) ⌝ }
     ensures { λ x. ⌜ MatParts c r k (now (args .entry)) count (now (out .entry)) x (now (out .exit)) ⌝ }
 {
@@ -69,7 +69,7 @@ fn mat_by(
 // The arguments whatever the first is: its type is derived. The last byte of a type's record is its kind, which becomes the target's.
 fn mat_others(c: u8, r: u8, k: u8, args: &[u8], count: usize, out: &mut [u8]) -> Written
     requires { ⌜ T (floatNumber k) ⌝ }
-    requires { ⌜ SomeGiven (now args) count ⌝ }
+    requires { ⌜ SomeFirst (now args) count ⌝ }
     ensures { λ x. ⌜ MatParts c r k (now (args .entry)) count (now (out .entry)) x (now (out .exit)) ⌝ }
 {
     let mut ty = [0u8; Limit::TYPE_BYTES];
@@ -86,7 +86,7 @@ fn mat_others(c: u8, r: u8, k: u8, args: &[u8], count: usize, out: &mut [u8]) ->
 // (7 if that doesn't convert; a struct never does)". The front of a scalar's or a vector's type, which most are, says all of it; only other types are derived.
 pub fn mat_parts(c: u8, r: u8, k: u8, args: &[u8], count: usize, out: &mut [u8]) -> Written
     requires { ⌜ T (side c) × T (side r) × T (floatNumber k) ⌝ }
-    requires { ⌜ SomeGiven (now args) count ⌝ }
+    requires { ⌜ SomeFirst (now args) count ⌝ }
     ensures { λ x. ⌜ MatParts c r k (now (args .entry)) count (now (out .entry)) x (now (out .exit)) ⌝ }
 {
     match args::head_of(args, 0) {
@@ -159,7 +159,7 @@ fn qm_to(c: u8, r: u8, ty: &[u8], args: &[u8], count: usize, out: &mut [u8]) -> 
 // The arguments of `Qm`, which are not one matrix: "common type (10); float, AbstractInt becoming AbstractFloat (13); conversion (10); rows (14); count (8); 13".
 pub fn qm_parts(c: u8, r: u8, args: &[u8], count: usize, out: &mut [u8]) -> Written
     requires { ⌜ T (side c) × T (side r) ⌝ }
-    requires { ⌜ SomeGiven (now args) count ⌝ }
+    requires { ⌜ SomeFirst (now args) count ⌝ }
     ensures { λ x. ⌜ QmParts c r (now (args .entry)) count (now (out .entry)) x (now (out .exit)) ⌝ }
 {
     let mut ty = [0u8; Limit::TYPE_BYTES];

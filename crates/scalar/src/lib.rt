@@ -92,7 +92,7 @@ pub fn write_made(
 // ---- one argument
 
 // What was made, handed over as a literal of the kind k if there is room for it: "22 the accepted record is longer than the lent buffer".
-fn hand(k: u8, made: Made, out: &mut [u8]) -> Written
+fn hand_literal(k: u8, made: Made, out: &mut [u8]) -> Written
     requires { ⌜ SomeKind k ⌝ }
     ensures { λ r. ⌜ Handed k made (now (out .entry)) r (now (out .exit)) ⌝ }
 {
@@ -118,5 +118,5 @@ pub fn scalar(rules: Rules, k: u8, args: &[u8], out: &mut [u8]) -> Written
     if args[1] != b's' {
         return Written::Refused(Refusal::NOT_A_SCALAR);
     }
-    hand(k, made_at(rules, args, 0, k), out)
+    hand_literal(k, made_at(rules, args, 0, k), out)
 }

@@ -116,17 +116,11 @@ pub fn float_inner(ty: &[u8]) -> Found
 
 // ---- matrices
 
-// The byte as a count.
-fn wide(x: u8) -> usize
-    ensures { λ r. ⌜ r ≡ x ⌝ }
-{
-    x as usize
-}
-
+// The number of scalars in a matrix.
 fn times(c: u8, r: u8) -> usize
     ensures { λ n. ⌜ n ≡ c * r ⌝ }
 {
-    wide(c) * wide(r)
+    record::wide(c) * record::wide(r)
 }
 
 // Whether count arguments of the type at the front of `ty` are the scalars or the columns of a matrix: "rows (14), columns or c × r scalars (8), 13".
@@ -146,7 +140,7 @@ pub fn matrix_shape(c: u8, r: u8, ty: &[u8], count: usize) -> Shape
             if n != r {
                 return Shape::Refused(Refusal::COLUMN_LENGTH);
             }
-            let w = wide(c);
+            let w = record::wide(c);
             if count != w {
                 return Shape::Miscount(w, count);
             }

@@ -2,7 +2,7 @@
 use mathlib.Core.Path.{_≡_, refl, sym, ap, _∙_, subst}
 use mathlib.Core.Option.{Option, none, some}
 use mathlib.Core.List.{List, [], append-nil}
-use mathlib.Core.Bool.{_&&_}
+use mathlib.Core.Bool.{_&&_, true, false}
 use Prim.Native.Nat.{ℕ, _+_, _≤_}
 use native.Mathlib.Omega.{arith}
 use lib.Dec.{T, leb, leb→le, le→leb}
@@ -17,7 +17,7 @@ use Rattle.laws.proofs.Same.{both}
 use Rattle.laws.proofs.Sound.{Bytes}
 use Rattle.laws.proofs.Exact.{target-exact}
 use Rattle.ty.specs.Stands.{Stands}
-use Rattle.ty.specs.Targets.{ArrayShape, VectorShape, MatrixShape, RuntimeTarget, TypeTarget, targetOf}
+use Rattle.ty.specs.Targets.{ArrayShape, VectorShape, MatrixShape, RuntimeTarget, TypeTarget, targetOf, isBad, TypeIs, RuntimeIs, Meant}
 use Rattle.record.proofs.Places.{view2, view3, view4}
 use Rattle.ty.specs.declared.Target.{Target}
 use Rattle.ty.specs.declared.Target.the-variants.{«Type», Runtime, Array, Vector, Matrix, Bad}
@@ -142,28 +142,6 @@ module _ {s : List ℕ} where
 
 -- ---- what an answer says, for callers
 
--- all of the bytes are the record of one well-formed type
-pub record TypeIs (s : List ℕ) : Type 0 where
-  pub type : Ty
-  pub stands : Stands 15 s 0 type (length s)
-  pub good : T (goodTy type)
-  pub reads : readTarget s ≡ some (Of type)
-
--- all of the bytes after the mark are the record of one well-formed element type
-pub record RuntimeIs (s : List ℕ) : Type 0 where
-  pub type : Ty
-  pub stands : Stands 14 s 2 type (length s)
-  pub good : T (goodWithin 14 4092 type)
-  pub reads : readTarget s ≡ some (Tr type)
-
-abbrev pub Meant : List ℕ → Target → Type 0
-Meant s «Type» = TypeIs s
-Meant s Runtime = RuntimeIs s
-Meant s Array = readTarget s ≡ some Qa
-Meant s (Vector n) = (readTarget s ≡ some (Qv n)) × T (side n)
-Meant s (Matrix c r) = (readTarget s ≡ some (Qm c r)) × T (side c) × T (side r)
-Meant s Bad = readTarget s ≡ none
-
 pub meant : (s : List ℕ) {r : Target} → Bytes s → r ≡ targetOf (readTarget s) → Meant s r
 unfolding targetOf targetBytes goodTarget goodTy tr-target
 meant s b q = subst (Meant s) (sym q) (go (readTarget s) refl)
@@ -175,3 +153,32 @@ meant s b q = subst (Meant s) (sym q) (go (readTarget s) refl)
     go (some Qa) e = e
     go (some (Qv n)) e = (e, target-exact .sound s (Qv n) b e .1)
     go (some (Qm c r)) e = let y = target-exact .sound s (Qm c r) b e .1 in (e, and-l (side c) (side r) y, and-r (side c) (side r) y)
+
+-- a target that is read is not called bad
+good : (g : trees.Target) → isBad (targetOf (some g)) ≡ false
+unfolding targetOf
+good (Of t) = refl
+good (Tr t) = refl
+good Qa = refl
+good (Qv n) = refl
+good (Qm c r) = refl
+
+pub record SomeTarget (s : List ℕ) : Type 0 where
+  pub target : trees.Target
+  pub reads : readTarget s ≡ some target
+
+module _ (s : List ℕ) {r : Target} (q : r ≡ targetOf (readTarget s)) where
+  pub bad-target : isBad r ≡ true → readTarget s ≡ none
+  bad-target h = go (readTarget s) q
+    where
+      go : (o : Option trees.Target) → r ≡ targetOf o → o ≡ none
+      go none q = refl
+      go (some g) q = absurd (let z : _≡_ {A = ℕ} 0 1 = cc (good g) in omega arith)
+
+  pub some-target : isBad r ≡ false → SomeTarget s
+  unfolding targetOf
+  some-target h = go (readTarget s) refl q
+    where
+      go : (o : Option trees.Target) → readTarget s ≡ o → r ≡ targetOf o → SomeTarget s
+      go none e q = absurd (let z : _≡_ {A = ℕ} 0 1 = cc in omega arith)
+      go (some g) e q = record { target = g; reads = e }

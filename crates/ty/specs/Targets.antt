@@ -2,13 +2,15 @@
 use mathlib.Core.List.{List}
 use mathlib.Core.Option.{Option, none, some}
 use mathlib.Core.Path.{_≡_}
+use mathlib.Core.Bool.{Bool, true, false}
 use Prim.Native.Nat.{ℕ, _≤_}
 use lib.Dec.{T}
 use lib.ListN.{length, getD}
 use Rattle.meaning.specs.Trees as trees
-use Rattle.meaning.specs.Trees.{Of, Tr, Qa, Qv, Qm}
-use Rattle.meaning.specs.Records.{‘T’, ‘Q’, ‘a’, ‘v’, ‘m’, ‘r’, side}
-use Rattle.ty.specs.Stands.{Ends}
+use Rattle.meaning.specs.Trees.{Ty, Of, Tr, Qa, Qv, Qm}
+use Rattle.meaning.specs.Records.{‘T’, ‘Q’, ‘a’, ‘v’, ‘m’, ‘r’, side, goodWithin, goodTy}
+use Rattle.meaning.specs.Read.{readTarget}
+use Rattle.ty.specs.Stands.{Stands, Ends}
 use Rattle.ty.specs.declared.Target.{Target}
 use Rattle.ty.specs.declared.Target.the-variants.{«Type», Runtime, Array, Vector, Matrix, Bad}
 
@@ -56,3 +58,36 @@ targetOf (some (Tr t)) = Runtime
 targetOf (some Qa) = Array
 targetOf (some (Qv n)) = Vector n
 targetOf (some (Qm c r)) = Matrix c r
+
+-- the answer for bytes that are no target's
+abbrev pub isBad : Target → Bool
+isBad «Type» = false
+isBad Runtime = false
+isBad Array = false
+isBad (Vector n) = false
+isBad (Matrix c r) = false
+isBad Bad = true
+
+-- ---- what an answer says, for callers
+
+-- all of the bytes are the record of one well-formed type
+pub record TypeIs (s : List ℕ) : Type 0 where
+  pub type : Ty
+  pub stands : Stands 15 s 0 type (length s)
+  pub good : T (goodTy type)
+  pub reads : readTarget s ≡ some (Of type)
+
+-- all of the bytes after the mark are the record of one well-formed element type
+pub record RuntimeIs (s : List ℕ) : Type 0 where
+  pub type : Ty
+  pub stands : Stands 14 s 2 type (length s)
+  pub good : T (goodWithin 14 4092 type)
+  pub reads : readTarget s ≡ some (Tr type)
+
+abbrev pub Meant : List ℕ → Target → Type 0
+Meant s «Type» = TypeIs s
+Meant s Runtime = RuntimeIs s
+Meant s Array = readTarget s ≡ some Qa
+Meant s (Vector n) = (readTarget s ≡ some (Qv n)) × T (side n)
+Meant s (Matrix c r) = (readTarget s ≡ some (Qm c r)) × T (side c) × T (side r)
+Meant s Bad = readTarget s ≡ none

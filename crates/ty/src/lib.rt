@@ -11,7 +11,7 @@ ghost use Rattle.record.specs.Literals.{Sized, mostLit};
 ghost use Rattle.ty.specs.Stands.{Ends, EndAll, Standing, StandingAll};
 ghost use Rattle.ty.specs.TypeFronts.{kindNumber, floatNumber, Told, ScalarAt, VectorAt, MatrixAt, ArrayAt, StructAt, Fronted};
 ghost use Rattle.ty.specs.Heads.{HeadAt, lenOf, Measured, MeasuredAll, LeafAt};
-ghost use Rattle.ty.specs.Targets.{ArrayShape, VectorShape, MatrixShape, RuntimeTarget, TypeTarget, targetOf};
+ghost use Rattle.ty.specs.Targets.{ArrayShape, VectorShape, MatrixShape, RuntimeTarget, TypeTarget, targetOf, isBad};
 
 // The limits of document 01 on types and arguments, each with its words. They are written once, here.
 pub struct Limit;
@@ -411,6 +411,20 @@ pub fn read_target(s: &[u8]) -> Target
         return Target::Type;
     }
     Target::Bad
+}
+
+// Whether they are none's.
+pub fn is_bad(found: Target) -> bool
+    ensures { λ r. ⌜ r ≡ isBad found ⌝ }
+{
+    match found {
+        Target::Bad => true,
+        Target::Type => false,
+        Target::Runtime => false,
+        Target::Array => false,
+        Target::Vector(_) => false,
+        Target::Matrix(_, _) => false,
+    }
 }
 
 // The front of the record that stands at `at`. Only the second letter of the mark is looked at, since a well-formed record is known to stand there.

@@ -1,17 +1,14 @@
 -- The answers of typing, once the target is read.
 use mathlib.Core.List.{List}
 use Prim.Native.Nat.{ℕ}
-use lib.ListN.{length}
-use Rattle.meaning.specs.Trees.{Ty, Tv, Tm, Target, Of, Qa}
-use Rattle.meaning.specs.Read.{readTys}
-use Rattle.meaning.specs.Answers.{Result, Answer, orNo, _>>=_}
+use Rattle.meaning.specs.Trees.{Ty, Tv, Tm, Qa}
+use Rattle.meaning.specs.Read.{readTarget}
+use Rattle.meaning.specs.Answers.{Result, orNo, _>>=_}
 use Rattle.meaning.specs.Typing.{typed}
-use Rattle.meaning.specs.Entries.{handTy}
 use Rattle.conv.specs.Ranked.{Whole}
-use Rattle.error.specs.Told.{Told}
 use Rattle.error.specs.declared.Written.{Written}
 use Rattle.arg_types.specs.Given.{Given}
-use Rattle.check_type.specs.Rules.{Rules, WholeType}
+use Rattle.check_type.specs.Rules.{Rules}
 use Rattle.check_type.specs.declared.Checked.{Checked}
 use Rattle.infer_type.specs.Shapes.{Names}
 use Rattle.infer_type.specs.declared.Named.{Named}
@@ -30,9 +27,9 @@ MatrixAnswers c r x out z out′ = (y : Result Ty) → Names (Tm c r) y x → Ty
 abbrev pub ArrayAnswers : List ℕ → ℕ → List ℕ → Written → List ℕ → Type 0
 ArrayAnswers args n out r out′ = (l : List Ty) → Given args n l → Types (typed Qa l) out r out′
 
--- what is answered for a target once it is read
-unfoldable pub typeRead : Target → List ℕ → ℕ → Answer
-typeRead g args room = orNo 2 (readTys g args) >>= λ l. typed g l >>= handTy room
+-- the type for the target that the bytes are: "1 bad target record"
+unfoldable pub typedTarget : List ℕ → List Ty → Result Ty
+typedTarget target l = orNo 1 (readTarget target) >>= λ g. typed g l
 
-abbrev pub TypeTold : List ℕ → List ℕ → List ℕ → Written → List ℕ → Type 0
-TypeTold target args out r out′ = (t : Ty) → WholeType target t → Told (typeRead (Of t) args (length out)) out r out′
+abbrev pub TargetAnswers : List ℕ → List ℕ → ℕ → List ℕ → Written → List ℕ → Type 0
+TargetAnswers target args n out r out′ = (l : List Ty) → Given args n l → Types (typedTarget target l) out r out′

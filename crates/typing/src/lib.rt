@@ -7,18 +7,14 @@ use error::Written;
 use infer_type::Named;
 use ty::Limit;
 use ty::Target;
-ghost use mathlib.Core.Path.{_≡_};
-ghost use Prim.Native.Nat.{ℕ};
 ghost use lib.ListN.{length};
-ghost use Rattle.meaning.specs.Trees.{Ty, Tr, Qa, Qv, Qm};
-ghost use Rattle.meaning.specs.Answers.{no};
 ghost use Rattle.meaning.specs.Entries.{typeAnswer};
 ghost use Rattle.error.specs.Told.{Told};
 ghost use Rattle.ty.specs.Stands.{Ends};
+ghost use Rattle.ty.specs.Targets.{Meant};
 ghost use Rattle.arg_types.specs.Given.{SomeGiven};
-ghost use Rattle.check_type.specs.Rules.{GoodType};
 ghost use Rattle.typing.specs.Hands.{HandsVector, HandsMatrix, HandsArray};
-ghost use Rattle.typing.specs.TypingAnswers.{Answers, VectorAnswers, MatrixAnswers, ArrayAnswers, typeRead, TypeTold};
+ghost use Rattle.typing.specs.TypingAnswers.{Answers, VectorAnswers, MatrixAnswers, ArrayAnswers, TargetAnswers};
 
 // ---- handing a record over
 
@@ -102,70 +98,36 @@ fn answer_array(args: &[u8], n: usize, out: &mut [u8]) -> Written
     }
 }
 
-// ---- of whichever arguments: "2 bad argument", before the rules
+// ---- the target and the arguments are read
 
-// To a type, whose record the target is.
-fn to_type(target: &[u8], args: &[u8], out: &mut [u8]) -> Written
-    requires { ⌜ GoodType (now target) ⌝ }
-    ensures { λ r. ⌜ TypeTold (now (target .entry)) (now (args .entry)) (now (out .entry)) r (now (out .exit)) ⌝ }
+// By the target. A runtime-sized array is "16 typing only: `Tr` ..".
+fn target_given(found: Target, target: &[u8], args: &[u8], count: usize, out: &mut [u8]) -> Written
+    requires { ⌜ Meant (now target) found × SomeGiven (now args) count ⌝ }
+    ensures { λ x. ⌜ TargetAnswers (now (target .entry)) (now (args .entry)) count (now (out .entry)) x (now (out .exit)) ⌝ }
 {
-    match args::type_args(args, false) {
-        Args::Count(n) => answer(target, check_type::check(target, args, n), out),
-        Args::Bad => Written::Refused(Refusal::BAD_ARGUMENT),
+    match found {
+        Target::Type => answer(target, check_type::check(target, args, count), out),
+        Target::Runtime => Written::Refused(Refusal::NOT_TYPED),
+        Target::Array => answer_array(args, count, out),
+        Target::Vector(n) => answer_vector(n, infer_type::name_vector(n, args, count), out),
+        Target::Matrix(c, r) => answer_matrix(c, r, infer_type::name_matrix(c, r, args, count), out),
+        Target::Bad => Written::Refused(Refusal::BAD_TARGET),
     }
 }
 
-// To `Qv`.
-fn to_vector(n: u8, args: &[u8], out: &mut [u8]) -> Written
-    ensures { λ r. ⌜ Told (typeRead (Qv n) (now (args .entry)) (length (now (out .entry)))) (now (out .entry)) r (now (out .exit)) ⌝ }
-{
-    match args::type_args(args, false) {
-        Args::Count(count) => answer_vector(n, infer_type::name_vector(n, args, count), out),
-        Args::Bad => Written::Refused(Refusal::BAD_ARGUMENT),
-    }
-}
-
-// To `Qm`.
-fn to_matrix(c: u8, r: u8, args: &[u8], out: &mut [u8]) -> Written
-    ensures { λ z. ⌜ Told (typeRead (Qm c r) (now (args .entry)) (length (now (out .entry)))) (now (out .entry)) z (now (out .exit)) ⌝ }
-{
-    match args::type_args(args, false) {
-        Args::Count(n) => answer_matrix(c, r, infer_type::name_matrix(c, r, args, n), out),
-        Args::Bad => Written::Refused(Refusal::BAD_ARGUMENT),
-    }
-}
-
-// To `Qa`, whose arguments have tighter limits.
-fn to_array(args: &[u8], out: &mut [u8]) -> Written
-    ensures { λ r. ⌜ Told (typeRead Qa (now (args .entry)) (length (now (out .entry)))) (now (out .entry)) r (now (out .exit)) ⌝ }
-{
-    match args::type_args(args, true) {
-        Args::Count(n) => answer_array(args, n, out),
-        Args::Bad => Written::Refused(Refusal::BAD_ARGUMENT),
-    }
-}
-
-// A runtime-sized array's refusal: "16 typing only: `Tr` .."
-fn runtime_refusal(args: &[u8]) -> u8
-    ensures { λ r. ⌜ ((t : Ty) (room : ℕ) → typeRead (Tr t) (now (args .entry)) room ≡ no r) ⌝ }
-{
-    match args::type_args(args, false) {
-        Args::Count(_) => Refusal::NOT_TYPED,
-        Args::Bad => Refusal::BAD_ARGUMENT,
-    }
-}
+// ---- the entry
 
 // The source's `type_ctor`: the type of what the target's constructor makes of arguments of these types. Nothing is assumed of the bytes; a refusal leaves the lent
 // buffer as it was, and a record fills the front of it.
 pub fn type_ctor(target: &[u8], args: &[u8], out: &mut [u8]) -> Written
     ensures { λ r. ⌜ Told (typeAnswer (now (target .entry)) (now (args .entry)) (length (now (out .entry)))) (now (out .entry)) r (now (out .exit)) ⌝ }
 {
-    match ty::read_target(target) {
-        Target::Type => to_type(target, args, out),
-        Target::Runtime => Written::Refused(runtime_refusal(args)),
-        Target::Array => to_array(args, out),
-        Target::Vector(n) => to_vector(n, args, out),
-        Target::Matrix(c, r) => to_matrix(c, r, args, out),
-        Target::Bad => Written::Refused(Refusal::BAD_TARGET),
+    let found = ty::read_target(target);
+    if ty::is_bad(found) {
+        return Written::Refused(Refusal::BAD_TARGET);
+    }
+    match args::type_args(args, found) {
+        Args::Count(n) => target_given(found, target, args, n, out),
+        Args::Bad => Written::Refused(Refusal::BAD_ARGUMENT),
     }
 }

@@ -7,28 +7,16 @@ use literal::Converted;
 use literal::Rules;
 use ty::Limit;
 ghost use mathlib.Core.Path.{_≡_};
-ghost use mathlib.Core.List.{[], _∷_};
 ghost use Prim.Native.Nat.{_+_, _≤_};
 ghost use lib.Dec.{T};
 ghost use lib.ListN.{length, getD};
-ghost use Rattle.meaning.specs.Records.{‘V’, ‘s’, ‘v’, side};
+ghost use Rattle.meaning.specs.Records.{‘s’, ‘v’, side};
 ghost use Rattle.literal.specs.LiteralAnswers.{SomeStage};
-ghost use Rattle.record.specs.Bytes.{Put};
 ghost use Rattle.args.specs.Row.{SomeRow, SomeArg};
 ghost use Rattle.scalar.specs.Made.{SomeKind, OneArg};
 ghost use Rattle.vector.specs.VectorRules.{Repeats, QvOne, Splats, VecOne, PartCount, IsFlat, FirstLit, FlatCount, AllFlat, SomeRoom, PartsPut, SomeVector, VectorPut, VecParts, SomeCommon, ToCommon, QvParts};
 
 // ---- writing
-
-// The mark of a vector's record and its count, at the front of the buffer.
-fn put_front(n: u8, out: &mut [u8]) -> usize
-    requires { ⌜ 3 ≤ length (now out) ⌝ }
-    ensures { λ r. ⌜ Put (now (out .entry)) 0 (‘V’ ∷ ‘v’ ∷ n ∷ []) r (now (out .exit)) ⌝ }
-{
-    let p = record::put_mark(out, 0, b'v');
-    out[p] = n;
-    p + 1
-}
 
 // The vector of n literals of one kind and one payload, if there is room for it: "22 the accepted record is longer than the lent buffer".
 fn repeated(n: u8, k: u8, bits: u64, out: &mut [u8]) -> Written
@@ -38,7 +26,7 @@ fn repeated(n: u8, k: u8, bits: u64, out: &mut [u8]) -> Written
     if ty::vector_len(n, k) > out.len() {
         return Written::Refused(Refusal::NO_ROOM);
     }
-    let p = put_front(n, out);
+    let p = record::put_three(out, 0, b'V', b'v', n);
     Written::Record(record::put_literals(n, k, bits, out, p))
 }
 
@@ -199,7 +187,7 @@ fn put_parts(k: u8, args: &[u8], out: &mut [u8], to: usize) -> usize
     while i < args.len() {
         let from = first_literal(args, i);
         let end = args::next_arg(args, i);
-        p = conv::convert(args, from, end, k, out, p);
+        p = conv::convert_items(args, from, end, k, out, p);
         i = end;
     }
     p
@@ -213,7 +201,7 @@ fn write_parts(n: u8, k: u8, args: &[u8], out: &mut [u8]) -> Written
     if ty::vector_len(n, k) > out.len() {
         return Written::Refused(Refusal::NO_ROOM);
     }
-    let p = put_front(n, out);
+    let p = record::put_three(out, 0, b'V', b'v', n);
     Written::Record(put_parts(k, args, out, p))
 }
 

@@ -41,7 +41,7 @@ fn put_vector(n: u8, k: u8, out: &mut [u8], to: usize) -> usize
 }
 
 // c columns of r zeros.
-fn put_columns(c: u8, r: u8, k: u8, out: &mut [u8], to: usize) -> usize
+fn put_zero_columns(c: u8, r: u8, k: u8, out: &mut [u8], to: usize) -> usize
     requires { ⌜ Takes (now out) to (times c (vectorOf r k)) ⌝ }
     ensures { λ e. ⌜ Put (now (out .entry)) to (times c (vectorOf r k)) e (now (out .exit)) ⌝ }
 {
@@ -60,7 +60,7 @@ fn put_matrix(c: u8, r: u8, k: u8, out: &mut [u8], to: usize) -> usize
     ensures { λ e. ⌜ Put (now (out .entry)) to (matrixOf c r k) e (now (out .exit)) ⌝ }
 {
     let p = record::put_four(out, to, b'V', b'm', c, r);
-    put_columns(c, r, k, out, p)
+    put_zero_columns(c, r, k, out, p)
 }
 
 // ---- what stands before the parts of a value
@@ -88,7 +88,7 @@ fn put_struct(i: u16, n: u16, out: &mut [u8], to: usize) -> usize
 
 // n times the zero value of the type that stands at `at`. Each is written from the type's record again, which has no more parts than the value: the time is
 // linear in the bytes written.
-fn write_elements(ty: &[u8], at: usize, n: u16, depth: u8, out: &mut [u8], to: usize) -> Zeroed
+fn put_zero_elements(ty: &[u8], at: usize, n: u16, depth: u8, out: &mut [u8], to: usize) -> Zeroed
     requires { ⌜ ElementsRoom depth (now ty) at n (now out) to ⌝ }
     ensures { λ r. ⌜ ZeroesEach depth (now (ty .entry)) at n (now (out .entry)) to (r .ty) (r .out) (now (out .exit)) ⌝ }
 {
@@ -105,7 +105,7 @@ fn write_elements(ty: &[u8], at: usize, n: u16, depth: u8, out: &mut [u8], to: u
 }
 
 // The zero values of the n types that stand at `at`, in order.
-fn write_members(ty: &[u8], at: usize, n: u16, depth: u8, out: &mut [u8], to: usize) -> Zeroed
+fn put_zero_members(ty: &[u8], at: usize, n: u16, depth: u8, out: &mut [u8], to: usize) -> Zeroed
     requires { ⌜ MembersRoom depth (now ty) at n (now out) to ⌝ }
     ensures { λ r. ⌜ ZeroesAll depth (now (ty .entry)) at n (now (out .entry)) to (r .ty) (r .out) (now (out .exit)) ⌝ }
 {
@@ -141,11 +141,11 @@ pub fn write_zero(ty: &[u8], at: usize, depth: u8, out: &mut [u8], to: usize) ->
         }
         Head::Array(n) => {
             let p = put_array(n, out, to);
-            write_elements(ty, at + 4, n, depth - 1, out, p)
+            put_zero_elements(ty, at + 4, n, depth - 1, out, p)
         }
         Head::Struct(i, n) => {
             let p = put_struct(i, n, out, to);
-            write_members(ty, at + 6, n, depth - 1, out, p)
+            put_zero_members(ty, at + 6, n, depth - 1, out, p)
         }
     }
 }

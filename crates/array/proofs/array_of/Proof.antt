@@ -4,7 +4,7 @@ use native.Mathlib.Omega.{arith}
 use borrow.Author.Needs.{needs}
 use borrow.Author.Tests.{not-true, not-false}
 use Rattle.error.proofs.BufferAtExit.{builds-as, builds-no, builds-miscount}
-use Rattle.array.proofs.Arrays.{array-room, array-count, array-elem, array-most, become, array-nine, array-miscount, array-ok}
+use Rattle.array.proofs.Arrays.{array-room, array-count, array-elem, become, array-nine, array-miscount, array-ok}
 use Rattle.array.proofs.array_of.Statement.{statement}
 use Rattle.array.proofs.array_of.Tie as tie
 
@@ -13,35 +13,28 @@ array-of-spec =
     tie.close
     (tie.spec
     -- all-convert-requires
-    (λ c κs. let p = c .before .before .before .pre in (record { rest = record { values = _; row = p .row }; to = record { type = _; end = _; stands = array-elem (p .whole) } }, omega arith))
+    (λ c κs. let p = c .before .before .before .pre in (record { rest = record { values = _; row = p .given .row }; to = record { type = _; end = _; stands = array-elem (p .whole) } }, omega arith))
     -- returns
-    (λ c n t l w r s g. builds-no _ 9 (array-nine t l n (sym (c .before .all-convert .ensures l t _ r (array-elem w)) ∙ not-true (c .before .all-convert .result) (c .if1 .taken))))
+    (λ c n t l w g. builds-no _ 9 (array-nine t l n (sym (c .before .all-convert .ensures l t _ (g .row) (array-elem w)) ∙ not-true (c .before .all-convert .result) (c .if1 .taken))))
     -- shared-slice-read-join
     (λ c. omega (arith, array-room (c .before .before .before .before .before .before .pre .whole)))
     -- shared-slice-read-join-2
     (λ c. omega (arith, array-room (c .before .before .before .before .before .before .before .pre .whole)))
     (λ c κs. search needs) (λ c. search needs)
     -- returns-2
-    (λ c n t l w r s g.
-    let b = become t l (sym (c .before .before .before .before .before .all-convert .ensures l t _ r (array-elem w)) ∙ not-false (c .before .before .before .before .before .all-convert .result) (c .before .before .before .before .if1 .left)) in
-    builds-miscount _ _ _ (array-miscount t l b (c .before .join .ensures ∙ array-count w) g (c .if2 .taken)))
+    (λ c n t l w g.
+    let b = become t l (sym (c .before .before .before .before .before .all-convert .ensures l t _ (g .row) (array-elem w)) ∙ not-false (c .before .before .before .before .before .all-convert .result) (c .before .before .before .before .if1 .left)) in
+    builds-miscount _ _ _ (array-miscount t l b (c .before .join .ensures ∙ array-count w) (g .count) (c .if2 .taken)))
     -- write-array-requires
     (λ c κs.
     let p = c .before .before .before .before .before .before .before .before .before .before .pre in
     let w = p .whole in
-    let b = become _ _ (sym (c .before .before .before .before .before .before .all-convert .ensures _ _ _ (p .row) (array-elem w)) ∙ not-false (c .before .before .before .before .before .before .all-convert .result) (c .before .before .before .before .before .if1 .left)) in
-    let k = c .before .if2 .left ∙ (c .before .before .join .ensures ∙ array-count w) in
-    record {
-      type = _;
-      end = _;
-      values = _;
-      intos = b .intos;
-      elements = record { given = record { row = p .row; is = p .given; least = p .least; most = omega (arith, k, p .given, array-most w) }; stands = array-elem w; goes = b .goes };
-    })
+    let b = become _ _ (sym (c .before .before .before .before .before .before .all-convert .ensures _ _ _ (p .given .row) (array-elem w)) ∙ not-false (c .before .before .before .before .before .before .all-convert .result) (c .before .before .before .before .before .if1 .left)) in
+    record { type = _; end = _; values = _; intos = b .intos; elements = record { given = p .given; least = p .least; stands = array-elem w; goes = b .goes } })
     (λ c. search needs)
     -- returns-3
-    (λ c n t l w r s g.
-    let b = become t l (sym (c .before .before .before .before .before .before .before .before .before .all-convert .ensures l t _ r (array-elem w)) ∙ not-false (c .before .before .before .before .before .before .before .before .before .all-convert .result) (c .before .before .before .before .before .before .before .before .if1 .left)) in
+    (λ c n t l w g.
+    let b = become t l (sym (c .before .before .before .before .before .before .before .before .before .all-convert .ensures l t _ (g .row) (array-elem w)) ∙ not-false (c .before .before .before .before .before .before .before .before .before .all-convert .result) (c .before .before .before .before .before .before .before .before .if1 .left)) in
     let k = c .before .before .before .before .if2 .left ∙ (c .before .before .before .before .before .join .ensures ∙ array-count w) in
-    builds-as _ (array-ok t l b (sym g ∙ k))
-    (c .before .before .write-array .ensures t _ l (b .intos) record { given = record { row = r; is = g; least = s; most = omega (arith, k, array-most w) }; stands = array-elem w; goes = b .goes })))
+    builds-as _ (array-ok t l b (sym (g .count) ∙ k))
+    (c .before .before .write-array .ensures t _ l (b .intos) record { given = g; least = c .before .before .before .before .before .before .before .before .before .before .before .before .before .pre .least; stands = array-elem w; goes = b .goes })))

@@ -16,7 +16,7 @@ qa-of-spec =
     (λ c. search needs) (λ c κs. search needs) (λ c. search needs) (λ c. search needs)
     -- all-fit-requires
     (λ c κs.
-    let p = c .before .before .before .before .before .before .before .before .pre in
+    let p = c .before .before .before .before .before .before .before .before .pre .1 in
     let o = c .before .before .before .before .common-type-of in
     let f = common-of _ (o .result) (o .last .1 .1 .0) (o .ensures (p .values) (p .given .row)) (c .before .enum-told .given .1) in
     record { values = _; row = p .given .row; type = f .type; end = _; stands = f .stands; converts = common-to (p .values) (f .type) (f .is) })
@@ -28,18 +28,19 @@ qa-of-spec =
     (λ c. search needs)
     -- write-array-requires
     (λ c κs.
-    let p = c .before .before .before .before .before .before .before .before .before .before .before .before .pre in
+    let q = c .before .before .before .before .before .before .before .before .before .before .before .before .pre in
+    let p = q .1 in
     let o = c .before .before .before .before .before .before .before .before .common-type-of in
     let f = common-of _ (o .result) (o .last .1 .1 .0) (o .ensures (p .values) (p .given .row)) (c .before .before .before .before .before .enum-told .given .1) in
     let b = become (f .type) (p .values) (sym (c .before .before .before .all-fit .ensures _ (f .type) _ (p .given .row) (f .stands)) ∙ not-false (c .before .before .before .all-fit .result) (c .before .before .if1 .left)) in
-    record { type = _; end = _; values = _; intos = b .intos; elements = record { given = p .given; stands = f .stands; goes = b .goes } })
+    record { type = _; end = _; values = _; intos = b .intos; elements = record { given = p .given; least = q .0; stands = f .stands; goes = b .goes } })
     (λ c. search needs) (λ c. search needs)
     -- returns-2
     (λ c l g.
     let o = c .before .before .before .before .before .before .before .before .before .before .before .common-type-of in
     let f = common-of _ (o .result) (o .last .1 .1 .0) (o .ensures l (g .row)) (c .before .before .before .before .before .before .before .before .enum-told .given .1) in
     let b = become (f .type) l (sym (c .before .before .before .before .before .before .all-fit .ensures l (f .type) _ (g .row) (f .stands)) ∙ not-false (c .before .before .before .before .before .before .all-fit .result) (c .before .before .before .before .before .if1 .left)) in
-    builds-as _ (qa-ok l (f .is) b) (c .before .before .write-array .ensures (f .type) _ l (b .intos) record { given = g; stands = f .stands; goes = b .goes }))
+    builds-as _ (qa-ok l (f .is) b) (c .before .before .write-array .ensures (f .type) _ l (b .intos) record { given = g; least = c .before .before .before .before .before .before .before .before .before .before .before .before .before .before .before .pre .0; stands = f .stands; goes = b .goes }))
     -- returns-3
     (λ c l g.
     let o = c .before .before .before .common-type-of in

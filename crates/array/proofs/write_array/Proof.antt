@@ -13,7 +13,7 @@ write-array-spec =
     (tie.spec
     (λ c κs. search needs)
     -- takes-array-requires
-    (λ c κs. let g = c .before .before .before .before .pre .elements .given in omega (arith, g .is, g .least))
+    (λ c κs. c .before .before .before .before .pre .elements .least)
     -- returns
     (λ c t e l ws x.
     array-no x (c .before .before .before .before .before .before .args .out .now) (c .before .takes-array .ensures _ _ (c .before .before .value-len .ensures _ _ (x .stands))) (not-true (c .before .takes-array .result) (c .if1 .taken)))

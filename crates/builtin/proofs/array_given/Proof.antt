@@ -5,7 +5,7 @@ use borrow.Author.Needs.{needs}
 use Rattle.meaning.specs.Trees.{Qa}
 use Rattle.meaning.specs.Build.{build}
 use Rattle.error.proofs.BufferAtExit.{builds-no, builds-as}
-use Rattle.builtin.proofs.Counts.{builds-none, qa-build, array-given}
+use Rattle.builtin.proofs.Counts.{builds-none, qa-build}
 use Rattle.builtin.proofs.array_given.Statement.{statement}
 use Rattle.builtin.proofs.array_given.Tie as tie
 
@@ -17,9 +17,7 @@ array-given-spec =
     -- returns
     (λ c s l g. builds-none (build s Qa) l g (c .if1 .taken) (builds-no _ 11 refl))
     -- qa-of-requires
-    (λ c κs. let p = c .before .before .before .before .pre in record { values = p .values; given = array-given (p .given) (omega (arith, c .before .if1 .left)) })
+    (λ c κs. search needs)
     (λ c. search needs)
     -- returns-2
-    (λ c s l g.
-    let a = array-given g (omega (arith, c .before .before .before .before .if1 .left)) in
-    builds-as _ (qa-build s l (a .least)) (c .before .before .qa-of .ensures l a)))
+    (λ c s l g. builds-as _ (qa-build s l (g .count) (omega (arith, c .before .before .before .before .if1 .left))) (c .before .before .qa-of .ensures l g)))

@@ -1,10 +1,11 @@
--- What `read_target` says is what `readTarget` gives, and the answer follows from it.
+-- The target is read, then the arguments, and the constructor's answer follows.
 use mathlib.Core.Path.{sym, _∙_}
 use borrow.Author.Needs.{needs}
-use Rattle.ty.proofs.Targets.{meant}
+use Rattle.meaning.specs.Read.{readVals}
+use Rattle.ty.proofs.Targets.{meant, bad-target}
+use Rattle.args.proofs.Rest.{both-read, none-read}
 use Rattle.error.proofs.BufferAtExit.{refused}
-use Rattle.error.proofs.Told.{told-as}
-use Rattle.builtin.proofs.CallAnswers.{no-target, read-answer}
+use Rattle.builtin.proofs.CallAnswers.{no-target, no-args, read-given, read-builds}
 use Rattle.builtin.proofs.target_call.Statement.{statement}
 use Rattle.builtin.proofs.target_call.Tie as tie
 
@@ -12,62 +13,29 @@ pub target-call-spec : {M : Type 1} → statement M
 target-call-spec =
     tie.close
     (tie.spec
-    (λ c κs. search needs) (λ c. search needs)
-    -- type-call-requires
-    (λ c κs.
-    let r = c .before .before .before in
-    let m = meant (r .before .before .before .before .args .target .now) (λ i. r .before .before .before .shared-slice-known .given i .fits) (sym (c .before .enum-told .given .1) ∙ r .read-target .ensures) in
-    (r .before .before .before .before .pre, record { type = m .type; stands = m .stands }))
-    (λ c. search needs)
-    -- runtime-call-requires
-    (λ c κs.
-    let r = c .before .before .before in
-    let m = meant (r .before .before .before .before .args .target .now) (λ i. r .before .before .before .shared-slice-known .given i .fits) (sym (c .before .enum-told2 .given .1) ∙ r .read-target .ensures) in
-    record { type = m .type; whole = m .stands })
-    (λ c. search needs) (λ c κs. search needs) (λ c. search needs)
-    -- vector-call-requires
-    (λ c κs.
-    let r = c .before .before .before .before in
-    let m = meant (r .before .before .before .before .args .target .now) (λ i. r .before .before .before .shared-slice-known .given i .fits) (sym (c .before .before .n .given .1) ∙ r .read-target .ensures) in
-    m .1)
-    (λ c. search needs)
-    -- matrix-call-requires
-    (λ c κs.
-    let r = c .before .before .before .before in
-    let m = meant (r .before .before .before .before .args .target .now) (λ i. r .before .before .before .shared-slice-known .given i .fits) (sym (c .before .before .c .given .1) ∙ r .read-target .ensures) in
-    (m .1, m .2))
-    (λ c. search needs) (λ c. search needs)
+    (λ c κs. search needs) (λ c κs. search needs)
     -- returns
-    (λ c s e.
-    let r = c .before .before .before .before .before .before in
-    let m = meant (r .before .before .before .before .args .target .now) (λ i. r .before .before .before .shared-slice-known .given i .fits) (sym (c .before .before .before .before .enum-told .given .1) ∙ r .read-target .ensures) in
-    told-as (read-answer s _ _ _ (m .reads)) (c .before .before .type-call .ensures s (m .type) e (m .stands)))
-    (λ c. search needs)
+    (λ c s e. refused 1 _ (no-target s _ _ _ (bad-target _ (c .before .before .read-target .ensures) (sym (c .before .is-bad .ensures) ∙ c .if1 .taken))))
+    (λ c κs. search needs) (λ c. search needs)
+    -- target-given-requires
+    (λ c κs.
+    let v = c .before .before .before .before in
+    let t = v .before .before .before in
+    let a = t .before .before .before .before in
+    let q = t .read-target .ensures in
+    let x = both-read readVals (a .args .target .now) (a .args .args .now) q (sym (v .before .before .is-bad .ensures) ∙ v .before .if1 .left) (v .value-args .ensures) (c .before .before .n .given .1) in
+    (a .pre, meant _ (λ i. t .before .before .before .shared-slice-known .given i .fits) q, record { values = x .items; given = read-given _ (λ i. t .before .before .shared-slice-known2 .given i .fits) x }))
+    (λ c. search needs) (λ c. search needs)
     -- returns-2
     (λ c s e.
-    let r = c .before .before .before .before .before .before in
-    let m = meant (r .before .before .before .before .args .target .now) (λ i. r .before .before .before .shared-slice-known .given i .fits) (sym (c .before .before .before .before .enum-told2 .given .1) ∙ r .read-target .ensures) in
-    told-as (read-answer s _ _ _ (m .reads)) (c .before .before .runtime-call .ensures s (m .type) (m .stands)))
-    (λ c. search needs)
+    let v = c .before .before .before .before .before .before .before in
+    let t = v .before .before .before in
+    let a = t .before .before .before .before .args in
+    let x = both-read readVals (a .target .now) (a .args .now) (t .read-target .ensures) (sym (v .before .before .is-bad .ensures) ∙ v .before .if1 .left) (v .value-args .ensures) (c .before .before .before .before .before .n .given .1) in
+    read-builds s _ _ x (c .before .before .target-given .ensures s (x .items) e (read-given _ (λ i. t .before .before .shared-slice-known2 .given i .fits) x)))
     -- returns-3
     (λ c s e.
-    let r = c .before .before .before .before .before .before in
-    let m = meant (r .before .before .before .before .args .target .now) (λ i. r .before .before .before .shared-slice-known .given i .fits) (sym (c .before .before .before .before .enum-told3 .given .1) ∙ r .read-target .ensures) in
-    told-as (read-answer s _ _ _ m) (c .before .before .array-call .ensures s))
-    (λ c. search needs)
-    -- returns-4
-    (λ c s e.
-    let r = c .before .before .before .before .before .before .before in
-    let m = meant (r .before .before .before .before .args .target .now) (λ i. r .before .before .before .shared-slice-known .given i .fits) (sym (c .before .before .before .before .before .n .given .1) ∙ r .read-target .ensures) in
-    told-as (read-answer s _ _ _ (m .0)) (c .before .before .vector-call .ensures s))
-    (λ c. search needs)
-    -- returns-5
-    (λ c s e.
-    let r = c .before .before .before .before .before .before .before in
-    let m = meant (r .before .before .before .before .args .target .now) (λ i. r .before .before .before .shared-slice-known .given i .fits) (sym (c .before .before .before .before .before .c .given .1) ∙ r .read-target .ensures) in
-    told-as (read-answer s _ _ _ (m .0)) (c .before .before .matrix-call .ensures s))
-    -- returns-6
-    (λ c s e.
-    let r = c .before .before in
-    let m = meant (r .before .before .before .before .args .target .now) (λ i. r .before .before .before .shared-slice-known .given i .fits) (sym (c .enum-told4 .given .1) ∙ r .read-target .ensures) in
-    refused 1 _ (no-target s _ _ _ m)))
+    let v = c .before .before in
+    let t = v .before .before .before in
+    let a = t .before .before .before .before .args in
+    refused 2 _ (no-args s _ _ _ (none-read readVals (a .target .now) (a .args .now) (t .read-target .ensures) (sym (v .before .before .is-bad .ensures) ∙ v .before .if1 .left) (v .value-args .ensures) (c .enum-told .given .1)))))

@@ -8,7 +8,7 @@ use Rattle.ty.proofs.Heads.{scalar-is, vector-is, matrix-is, array-is, struct-i
 use Rattle.conv.specs.Ranked.{Whole}
 use Rattle.error.proofs.BufferAtExit.{builds-as}
 use Rattle.builtin.proofs.CallAnswers.{vector-side, matrix-sides}
-use Rattle.builtin.proofs.Counts.{builds-none, array-given, array-build, struct-build}
+use Rattle.builtin.proofs.Counts.{builds-none, array-build, struct-build}
 use Rattle.builtin.proofs.type_given.Statement.{statement}
 use Rattle.builtin.proofs.type_given.Tie as tie
 
@@ -38,14 +38,13 @@ type-given-spec =
     (λ c κs.
     let p = c .before .before .before .before .before .before .before .before .pre in
     let x = array-is (p .1 .stands) (sym (c .before .enum-told .given .1) ∙ c .before .before .before .head-at .ensures _ _ (p .1 .stands)) in
-    let g = array-given (p .2 .given) (omega (arith, c .before .before .before .before .if1 .left)) in
-    record { number = _; type = x .elem; values = p .2 .values; whole = subst (Whole _) (x .is) (p .1 .stands); row = g .row; least = g .least; given = g .is })
+    record { number = _; type = x .elem; values = p .2 .values; whole = subst (Whole _) (x .is) (p .1 .stands); given = p .2 .given; least = omega (arith, c .before .before .before .before .if1 .left) })
     (λ c. search needs)
     -- struct-of-requires
     (λ c κs.
     let p = c .before .before .before .before .before .before .before .before .pre in
     let x = struct-is (p .1 .stands) (sym (c .before .enum-told2 .given .1) ∙ c .before .before .before .head-at .ensures _ _ (p .1 .stands)) in
-    record { identity = _; types = x .members; values = p .2 .values; struct = record { whole = subst (Whole _) (x .is) (p .1 .stands); row = p .2 .given .row }; given = p .2 .given .count })
+    record { identity = _; types = x .members; values = p .2 .values; whole = subst (Whole _) (x .is) (p .1 .stands); given = p .2 .given })
     (λ c. search needs)
     -- returns-2
     (λ c s t e w l g. let x = scalar-is w (sym (c .before .before .before .before .before .k .given .1) ∙ c .before .before .before .before .before .before .before .head-at .ensures _ _ w) in builds-as _ (ap (λ (u : Ty). build s (Of u) l) (x .is)) (c .before .before .scalar-ctor .ensures s (x .kind) e (x .no) l g))
@@ -59,11 +58,11 @@ type-given-spec =
     -- returns-5
     (λ c s t e w l g.
     let x = array-is w (sym (c .before .before .before .before .enum-told .given .1) ∙ c .before .before .before .before .before .before .head-at .ensures _ _ w) in
-    let a = array-given g (omega (arith, c .before .before .before .before .before .before .before .if1 .left)) in
-    builds-as _ (ap (λ (u : Ty). build s (Of u) l) (x .is) ∙ array-build s _ (x .elem) l (a .least)) (c .before .before .array-of .ensures _ (x .elem) l (subst (Whole _) (x .is) w) (a .row) (a .least) (a .is)))
+    let h = array-build s _ (x .elem) l (g .count) (omega (arith, c .before .before .before .before .before .before .before .if1 .left)) in
+    builds-as _ (ap (λ (u : Ty). build s (Of u) l) (x .is) ∙ h) (c .before .before .array-of .ensures _ (x .elem) l (subst (Whole _) (x .is) w) g))
     (λ c. search needs)
     -- returns-6
     (λ c s t e w l g.
     let x = struct-is w (sym (c .before .before .before .before .enum-told2 .given .1) ∙ c .before .before .before .before .before .before .head-at .ensures _ _ w) in
-    let a = array-given g (omega (arith, c .before .before .before .before .before .before .before .if1 .left)) in
-    builds-as _ (ap (λ (u : Ty). build s (Of u) l) (x .is) ∙ struct-build s _ (x .members) l (a .least)) (c .before .before .struct-of .ensures _ (x .members) l (subst (Whole _) (x .is) w) (a .row) (a .is))))
+    let h = struct-build s _ (x .members) l (g .count) (omega (arith, c .before .before .before .before .before .before .before .if1 .left)) in
+    builds-as _ (ap (λ (u : Ty). build s (Of u) l) (x .is) ∙ h) (c .before .before .struct-of .ensures _ (x .members) l (subst (Whole _) (x .is) w) g)))

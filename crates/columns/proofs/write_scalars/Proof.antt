@@ -14,7 +14,7 @@ write-scalars-spec =
     (λ c κs. search needs)
     -- returns
     (λ c j qs x g. hands-long _ _ j qs g _ (sym (c .before .room-for .ensures j (x .no)) ∙ not-true (c .before .room-for .result) (c .if1 .taken)))
-    -- put-matrix-front-requires
+    -- put-four-requires
     (λ c κs.
     let p = c .before .before .before .before .before .pre in
     omega (arith, hands-room _ _ (p .kind) (p .pays) (p .shaped) (sym (c .before .before .room-for .ensures (p .kind) (p .are .no)) ∙ not-false (c .before .before .room-for .result) (c .before .if1 .left))))
@@ -22,8 +22,8 @@ write-scalars-spec =
     (λ c κs.
     let p = c .before .before .before .before .before .before .before .before .before .pre in
     let h = hands-room _ _ (p .kind) (p .pays) (p .shaped) (sym (c .before .before .before .before .before .before .room-for .ensures (p .kind) (p .are .no)) ∙ not-false (c .before .before .before .before .before .before .room-for .result) (c .before .before .before .before .before .if1 .left)) in
-    record { kind = p .kind; pays = p .pays; scalars = p .are; room = omega (arith, h, c .before .before .before .put-matrix-front .ensures .end, c .before .before .before .put-matrix-front .kept .1 .1 .0) })
+    record { kind = p .kind; pays = p .pays; scalars = p .are; room = omega (arith, h, c .before .before .before .put-four .ensures .end, c .before .before .before .put-four .kept .0) })
     (λ c. search needs)
     -- returns-2
     (λ c j qs x g.
-    hands-record _ _ j qs g _ (sym (c .before .before .before .before .before .before .before .before .before .room-for .ensures j (x .no)) ∙ not-false (c .before .before .before .before .before .before .before .before .before .room-for .result) (c .before .before .before .before .before .before .before .before .if1 .left)) (c .before .before .before .before .before .before .put-matrix-front .ensures) (c .before .before .put-columns .ensures j qs x)))
+    hands-record _ _ j qs g _ (sym (c .before .before .before .before .before .before .before .before .before .room-for .ensures j (x .no)) ∙ not-false (c .before .before .before .before .before .before .before .before .before .room-for .result) (c .before .before .before .before .before .before .before .before .if1 .left)) (c .before .before .before .before .before .before .put-four .ensures) (c .before .before .put-columns .ensures j qs x)))

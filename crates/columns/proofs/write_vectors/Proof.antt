@@ -15,16 +15,16 @@ write-vectors-spec =
     (λ c κs. search needs)
     -- returns
     (λ c j qs x g. hands-long _ _ j qs g _ (sym (c .before .room-for .ensures j (x .no)) ∙ not-true (c .before .room-for .result) (c .if1 .taken)))
-    -- put-matrix-front-requires
+    -- put-four-requires
     (λ c κs.
     let p = c .before .before .before .before .before .pre in
     omega (arith, hands-room _ _ (p .kind) (p .pays) (p .shaped) (sym (c .before .before .room-for .ensures (p .kind) (p .are .no)) ∙ not-false (c .before .before .room-for .result) (c .before .if1 .left))))
-    -- convert-requires
+    -- convert-items-requires
     (λ c κs.
     let p = c .before .before .before .before .before .before .before .before .before .pre in
     let h = hands-room _ _ (p .kind) (p .pays) (p .shaped) (sym (c .before .before .before .before .before .before .room-for .ensures (p .kind) (p .are .no)) ∙ not-false (c .before .before .before .before .before .before .room-for .result) (c .before .before .before .before .before .if1 .left)) in
-    scan-room (vectors-scan (p .are)) (p .are .no) refl (omega (arith, h, c .before .before .before .put-matrix-front .ensures .end, c .before .before .before .put-matrix-front .kept .1 .1 .0)))
+    scan-room (vectors-scan (p .are)) (p .are .no) refl (omega (arith, h, c .before .before .before .put-four .ensures .end, c .before .before .before .put-four .kept .0)))
     (λ c. search needs)
     -- returns-2
     (λ c j qs x g.
-    hands-record _ _ j qs g _ (sym (c .before .before .before .before .before .before .before .before .before .room-for .ensures j (x .no)) ∙ not-false (c .before .before .before .before .before .before .before .before .before .room-for .result) (c .before .before .before .before .before .before .before .before .if1 .left)) (c .before .before .before .before .before .before .put-matrix-front .ensures) (scan-put (vectors-scan x) (x .no) refl (c .before .before .convert .ensures))))
+    hands-record _ _ j qs g _ (sym (c .before .before .before .before .before .before .before .before .before .room-for .ensures j (x .no)) ∙ not-false (c .before .before .before .before .before .before .before .before .before .room-for .result) (c .before .before .before .before .before .before .before .before .if1 .left)) (c .before .before .before .before .before .before .put-four .ensures) (scan-put (vectors-scan x) (x .no) refl (c .before .before .convert-items .ensures))))

@@ -17,7 +17,7 @@ write-converted-spec =
     tie.close
     (tie.spec
     (λ c κs. search needs) (λ c. search needs)
-    -- convert-requires
+    -- convert-items-requires
     (λ c κs.
     let p = c .before .before .before .before .before .before .before .before .pre in
     let y = kind-scan (p .asked) (c .before .before .before .before .leaf-at .ensures) (c .before .before .k .given .1) in
@@ -30,11 +30,11 @@ write-converted-spec =
     let q = ap (λ (v : Val). length (valBytes v)) (struct-into (p .asked) (c .before .before .before .leaf-at .ensures) (c .before .enum-told .given .1) (p .goes)) in
     (omega (arith, b .size), b .within, omega (arith, b .size, p .room)))
     -- same-length
-    (λ c. c .before .before .convert .kept .1 .1 .1 .1 .0)
+    (λ c. c .before .before .convert-items .kept .1 .1 .1 .1 .0)
     -- returns
     (λ c t v w x g.
     let y = kind-scan x (c .before .before .before .before .before .before .before .leaf-at .ensures) (c .before .before .before .before .before .k .given .1) in
-    scan-put (y .scan) (y .no) (ap (mapSome valBytes) g) (c .before .before .convert .ensures))
+    scan-put (y .scan) (y .no) (ap (mapSome valBytes) g) (c .before .before .convert-items .ensures))
     -- same-length-2
     (λ c. c .before .before .copy .kept .1 .1 .1 .0)
     -- returns-2

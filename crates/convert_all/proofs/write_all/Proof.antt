@@ -19,7 +19,7 @@ write-all-spec =
     tie.close
     (tie.spec
     (λ c κs. search needs) (λ c. search needs)
-    -- convert-requires
+    -- convert-items-requires
     (λ c κs.
     let p = c .before .before .before .before .before .before .before .before .pre in
     let y = row-scan (p .row) (p .stands) (some-to (p .type) (p .values) (p .goes)) (c .before .before .before .before .leaf-at .ensures) (c .before .before .k .given .1) in
@@ -35,7 +35,7 @@ write-all-spec =
     -- returns
     (λ c l t e ws w v g.
     let y = row-scan w v (some-to t l g) (c .before .before .before .before .before .before .before .leaf-at .ensures) (c .before .before .before .before .before .k .given .1) in
-    scan-put (y .scan) (y .no) (ap (mapSome (joined valBytes)) g) (c .before .before .convert .ensures))
+    scan-put (y .scan) (y .no) (ap (mapSome (joined valBytes)) g) (c .before .before .convert-items .ensures))
     (λ c. search needs)
     -- returns-2
     (λ c l t e ws w v g. row-put w v (some-to t l g) (c .before .before .before .before .before .before .leaf-at .ensures) (c .before .before .before .before .enum-told .given .1) g (c .before .before .copy .ensures)))

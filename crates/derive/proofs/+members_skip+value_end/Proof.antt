@@ -17,7 +17,7 @@ use Rattle.derive.proofs.+members_skip+value_end.Lts-members_skip as me
 use Rattle.derive.proofs.value_end.Reads as value-end
 use Rattle.derive.proofs.value_end.Kinds as value-end-kinds
 use Rattle.derive.proofs.+members_skip+value_end.Lts-value_end as value-end-lts
-use Rattle.derive.proofs.front_at.Reads as front-at-reads
+use Rattle.derive.proofs.value_front.Reads as front-at-reads
 use Rattle.record.proofs.size.Reads as size-reads
 use Rattle.record.proofs.literal_len.Reads as literal-len-reads
 use Rattle.ty.proofs.matrix_len.Reads as matrix-len-reads
@@ -70,48 +70,48 @@ unfolding valLen
     (value-end-at t) value-end.Post
     (λ c κs. search needs) (λ c. search needs) (λ c κs. search needs)
     -- add-result
-    (λ c. let a = c .before .before .before .before .before .before .args in let p = c .before .before .before .before .before .before .pre .1 in record { fits = omega (arith, (leaf-end (a .depth) (a .s .now) (a .at) Ts _ mostLit _ (subst (FrontIs (a .depth) (a .s .now) (a .at)) (c .before .before .k .given .1) (c .before .before .before .before .front-at .ensures)) (c .literal-len .ensures)) (p .type) (p .end) (p .typed), p .typed .fits .within) })
+    (λ c. let a = c .before .before .before .before .before .before .args in let p = c .before .before .before .before .before .before .pre .1 in record { fits = omega (arith, (leaf-end (a .depth) (a .s .now) (a .at) Ts _ mostLit _ (subst (FrontIs (a .depth) (a .s .now) (a .at)) (c .before .before .k .given .1) (c .before .before .before .before .value-front .ensures)) (c .literal-len .ensures)) (p .type) (p .end) (p .typed), p .typed .fits .within) })
     (λ c. search needs) (λ c κs. search needs)
     -- add-result-2
-    (λ c. let a = c .before .before .before .before .before .before .args in let p = c .before .before .before .before .before .before .pre .1 in record { fits = omega (arith, (leaf-end (a .depth) (a .s .now) (a .at) (Tv _) _ _ _ (subst (FrontIs (a .depth) (a .s .now) (a .at)) (c .before .before .n .given .1) (c .before .before .before .before .front-at .ensures)) (c .vector-len .ensures)) (p .type) (p .end) (p .typed), p .typed .fits .within) })
+    (λ c. let a = c .before .before .before .before .before .before .args in let p = c .before .before .before .before .before .before .pre .1 in record { fits = omega (arith, (leaf-end (a .depth) (a .s .now) (a .at) (Tv _) _ _ _ (subst (FrontIs (a .depth) (a .s .now) (a .at)) (c .before .before .n .given .1) (c .before .before .before .before .value-front .ensures)) (c .vector-len .ensures)) (p .type) (p .end) (p .typed), p .typed .fits .within) })
     (λ c. search needs) (λ c κs. search needs)
     -- add-result-3
-    (λ c. let a = c .before .before .before .before .before .before .args in let p = c .before .before .before .before .before .before .pre .1 in record { fits = omega (arith, (leaf-end (a .depth) (a .s .now) (a .at) (Tm _ _) _ _ _ (subst (FrontIs (a .depth) (a .s .now) (a .at)) (c .before .before .c .given .1) (c .before .before .before .before .front-at .ensures)) (c .matrix-len .ensures)) (p .type) (p .end) (p .typed), p .typed .fits .within) })
+    (λ c. let a = c .before .before .before .before .before .before .args in let p = c .before .before .before .before .before .before .pre .1 in record { fits = omega (arith, (leaf-end (a .depth) (a .s .now) (a .at) (Tm _ _) _ _ _ (subst (FrontIs (a .depth) (a .s .now) (a .at)) (c .before .before .c .given .1) (c .before .before .before .before .value-front .ensures)) (c .matrix-len .ensures)) (p .type) (p .end) (p .typed), p .typed .fits .within) })
     (λ c. search needs)
     -- add-value-end
-    (λ c. let a = c .before .before .before .before .before .args in let f = (subst (FrontIs (a .depth) (a .s .now) (a .at)) (c .before .n2 .given .1) (c .before .before .before .front-at .ensures)) in record { fits = omega (arith, f .starts .room) })
+    (λ c. let a = c .before .before .before .before .before .args in let f = (subst (FrontIs (a .depth) (a .s .now) (a .at)) (c .before .n2 .given .1) (c .before .before .before .value-front .ensures)) in record { fits = omega (arith, f .starts .room) })
     -- sub-value-end
-    (λ c. let a = c .before .before .before .before .before .args in let f = (subst (FrontIs (a .depth) (a .s .now) (a .at)) (c .before .n2 .given .1) (c .before .before .before .front-at .ensures)) in f .deep)
+    (λ c. let a = c .before .before .before .before .before .args in let f = (subst (FrontIs (a .depth) (a .s .now) (a .at)) (c .before .n2 .given .1) (c .before .before .before .value-front .ensures)) in f .deep)
     -- value-end-requires
-    (λ c κs. let a = c .before .before .before .before .before .args in let f = (subst (FrontIs (a .depth) (a .s .now) (a .at)) (c .before .n2 .given .1) (c .before .before .before .front-at .ensures)) in (omega (arith, c .before .before .before .before .before .pre .0, f .deep), first-having (a .depth) (a .s .now) (a .at) _ f (c .before .before .before .before .before .pre .1)))
+    (λ c κs. let a = c .before .before .before .before .before .args in let f = (subst (FrontIs (a .depth) (a .s .now) (a .at)) (c .before .n2 .given .1) (c .before .before .before .value-front .ensures)) in (omega (arith, c .before .before .before .before .before .pre .0, f .deep), first-having (a .depth) (a .s .now) (a .at) _ f (c .before .before .before .before .before .pre .1)))
     -- add-result-4
-    (λ c. let a = c .before .before .before .before .before .before .args in let f = (subst (FrontIs (a .depth) (a .s .now) (a .at)) (c .before .before .n2 .given .1) (c .before .before .before .before .front-at .ensures)) in record { fits = omega (arith, f .starts .room) })
+    (λ c. let a = c .before .before .before .before .before .before .args in let f = (subst (FrontIs (a .depth) (a .s .now) (a .at)) (c .before .before .n2 .given .1) (c .before .before .before .before .value-front .ensures)) in record { fits = omega (arith, f .starts .room) })
     (λ c κs. search needs)
     -- add-result-5
-    (λ c. let a = c .before .before .before .before .before .before .before .args in let f = (subst (FrontIs (a .depth) (a .s .now) (a .at)) (c .before .before .before .n2 .given .1) (c .before .before .before .before .before .front-at .ensures)) in record { fits = omega (arith, f .starts .room) })
+    (λ c. let a = c .before .before .before .before .before .before .before .args in let f = (subst (FrontIs (a .depth) (a .s .now) (a .at)) (c .before .before .before .n2 .given .1) (c .before .before .before .before .before .value-front .ensures)) in record { fits = omega (arith, f .starts .room) })
     -- sub-result
-    (λ c. let a = c .before .before .before .before .before .before .before .args in let p = c .before .before .before .before .before .before .before .pre .1 in let x = array-end (a .depth) (a .s .now) (a .at) _ (subst (FrontIs (a .depth) (a .s .now) (a .at)) (c .before .before .before .n2 .given .1) (c .before .before .before .before .before .front-at .ensures)) (c .before .value-end .result) (c .size .result) (c .size .ensures) (c .before .value-end .ensures) (p .type) (p .end) (p .typed) in x .0)
+    (λ c. let a = c .before .before .before .before .before .before .before .args in let p = c .before .before .before .before .before .before .before .pre .1 in let x = array-end (a .depth) (a .s .now) (a .at) _ (subst (FrontIs (a .depth) (a .s .now) (a .at)) (c .before .before .before .n2 .given .1) (c .before .before .before .before .before .value-front .ensures)) (c .before .value-end .result) (c .size .result) (c .size .ensures) (c .before .value-end .ensures) (p .type) (p .end) (p .typed) in x .0)
     -- mul-result
-    (λ c. let a = c .before .before .before .before .before .before .before .args in let p = c .before .before .before .before .before .before .before .pre .1 in let x = array-end (a .depth) (a .s .now) (a .at) _ (subst (FrontIs (a .depth) (a .s .now) (a .at)) (c .before .before .before .n2 .given .1) (c .before .before .before .before .before .front-at .ensures)) (c .before .value-end .result) (c .size .result) (c .size .ensures) (c .before .value-end .ensures) (p .type) (p .end) (p .typed) in record { fits = omega (arith, x .1, p .typed .fits .within) })
+    (λ c. let a = c .before .before .before .before .before .before .before .args in let p = c .before .before .before .before .before .before .before .pre .1 in let x = array-end (a .depth) (a .s .now) (a .at) _ (subst (FrontIs (a .depth) (a .s .now) (a .at)) (c .before .before .before .n2 .given .1) (c .before .before .before .before .before .value-front .ensures)) (c .before .value-end .result) (c .size .result) (c .size .ensures) (c .before .value-end .ensures) (p .type) (p .end) (p .typed) in record { fits = omega (arith, x .1, p .typed .fits .within) })
     -- add-result-6
-    (λ c. let a = c .before .before .before .before .before .before .before .args in let p = c .before .before .before .before .before .before .before .pre .1 in let x = array-end (a .depth) (a .s .now) (a .at) _ (subst (FrontIs (a .depth) (a .s .now) (a .at)) (c .before .before .before .n2 .given .1) (c .before .before .before .before .before .front-at .ensures)) (c .before .value-end .result) (c .size .result) (c .size .ensures) (c .before .value-end .ensures) (p .type) (p .end) (p .typed) in record { fits = omega (arith, x .1, p .typed .fits .within) })
+    (λ c. let a = c .before .before .before .before .before .before .before .args in let p = c .before .before .before .before .before .before .before .pre .1 in let x = array-end (a .depth) (a .s .now) (a .at) _ (subst (FrontIs (a .depth) (a .s .now) (a .at)) (c .before .before .before .n2 .given .1) (c .before .before .before .before .before .value-front .ensures)) (c .before .value-end .result) (c .size .result) (c .size .ensures) (c .before .value-end .ensures) (p .type) (p .end) (p .typed) in record { fits = omega (arith, x .1, p .typed .fits .within) })
     (λ c. search needs)
     -- add-members-skip
-    (λ c. let a = c .before .before .before .before .before .args in let f = (subst (FrontIs (a .depth) (a .s .now) (a .at)) (c .before .n3 .given .1) (c .before .before .before .front-at .ensures)) in record { fits = omega (arith, f .starts .room) })
+    (λ c. let a = c .before .before .before .before .before .args in let f = (subst (FrontIs (a .depth) (a .s .now) (a .at)) (c .before .n3 .given .1) (c .before .before .before .value-front .ensures)) in record { fits = omega (arith, f .starts .room) })
     -- sub-members-skip
-    (λ c. let a = c .before .before .before .before .before .args in let f = (subst (FrontIs (a .depth) (a .s .now) (a .at)) (c .before .n3 .given .1) (c .before .before .before .front-at .ensures)) in f .deep)
+    (λ c. let a = c .before .before .before .before .before .args in let f = (subst (FrontIs (a .depth) (a .s .now) (a .at)) (c .before .n3 .given .1) (c .before .before .before .value-front .ensures)) in f .deep)
     -- members-skip-requires
-    (λ c κs. let a = c .before .before .before .before .before .args in let f = (subst (FrontIs (a .depth) (a .s .now) (a .at)) (c .before .n3 .given .1) (c .before .before .before .front-at .ensures)) in (omega (arith, c .before .before .before .before .before .pre .0, f .deep), members-having (a .depth) (a .s .now) (a .at) _ _ f (c .before .before .before .before .before .pre .1)))
+    (λ c κs. let a = c .before .before .before .before .before .args in let f = (subst (FrontIs (a .depth) (a .s .now) (a .at)) (c .before .n3 .given .1) (c .before .before .before .value-front .ensures)) in (omega (arith, c .before .before .before .before .before .pre .0, f .deep), members-having (a .depth) (a .s .now) (a .at) _ _ f (c .before .before .before .before .before .pre .1)))
     (λ c. search needs)
     -- returns
-    (λ c. let a = c .before .before .before .before .before .before .args in leaf-end (a .depth) (a .s .now) (a .at) Ts _ mostLit _ (subst (FrontIs (a .depth) (a .s .now) (a .at)) (c .before .before .k .given .1) (c .before .before .before .before .front-at .ensures)) (c .literal-len .ensures))
+    (λ c. let a = c .before .before .before .before .before .before .args in leaf-end (a .depth) (a .s .now) (a .at) Ts _ mostLit _ (subst (FrontIs (a .depth) (a .s .now) (a .at)) (c .before .before .k .given .1) (c .before .before .before .before .value-front .ensures)) (c .literal-len .ensures))
     -- returns-2
-    (λ c. let a = c .before .before .before .before .before .before .args in leaf-end (a .depth) (a .s .now) (a .at) (Tv _) _ _ _ (subst (FrontIs (a .depth) (a .s .now) (a .at)) (c .before .before .n .given .1) (c .before .before .before .before .front-at .ensures)) (c .vector-len .ensures))
+    (λ c. let a = c .before .before .before .before .before .before .args in leaf-end (a .depth) (a .s .now) (a .at) (Tv _) _ _ _ (subst (FrontIs (a .depth) (a .s .now) (a .at)) (c .before .before .n .given .1) (c .before .before .before .before .value-front .ensures)) (c .vector-len .ensures))
     -- returns-3
-    (λ c. let a = c .before .before .before .before .before .before .args in leaf-end (a .depth) (a .s .now) (a .at) (Tm _ _) _ _ _ (subst (FrontIs (a .depth) (a .s .now) (a .at)) (c .before .before .c .given .1) (c .before .before .before .before .front-at .ensures)) (c .matrix-len .ensures))
+    (λ c. let a = c .before .before .before .before .before .before .args in leaf-end (a .depth) (a .s .now) (a .at) (Tm _ _) _ _ _ (subst (FrontIs (a .depth) (a .s .now) (a .at)) (c .before .before .c .given .1) (c .before .before .before .before .value-front .ensures)) (c .matrix-len .ensures))
     -- returns-4
-    (λ c u e w. let a = c .before .before .before .before .before .before .before .args in array-end (a .depth) (a .s .now) (a .at) _ (subst (FrontIs (a .depth) (a .s .now) (a .at)) (c .before .before .before .n2 .given .1) (c .before .before .before .before .before .front-at .ensures)) (c .before .value-end .result) (c .size .result) (c .size .ensures) (c .before .value-end .ensures) u e w .1)
+    (λ c u e w. let a = c .before .before .before .before .before .before .before .args in array-end (a .depth) (a .s .now) (a .at) _ (subst (FrontIs (a .depth) (a .s .now) (a .at)) (c .before .before .before .n2 .given .1) (c .before .before .before .before .before .value-front .ensures)) (c .before .value-end .result) (c .size .result) (c .size .ensures) (c .before .value-end .ensures) u e w .1)
     -- returns-5
-    (λ c. let a = c .before .before .before .before .before .before .args in struct-end (a .depth) (a .s .now) (a .at) _ _ (subst (FrontIs (a .depth) (a .s .now) (a .at)) (c .before .before .n3 .given .1) (c .before .before .before .before .front-at .ensures)) (c .members-skip .result) (c .members-skip .ensures))
+    (λ c. let a = c .before .before .before .before .before .before .args in struct-end (a .depth) (a .s .now) (a .at) _ _ (subst (FrontIs (a .depth) (a .s .now) (a .at)) (c .before .before .n3 .given .1) (c .before .before .before .before .value-front .ensures)) (c .members-skip .result) (c .members-skip .ensures))
     -- returns-6
-    (λ c u e w. let a = c .before .before .before .before .args in absurd (subst (FrontIs (a .depth) (a .s .now) (a .at)) (c .enum-told .given .1) (c .before .before .front-at .ensures) u e w)))
+    (λ c u e w. let a = c .before .before .before .before .args in absurd (subst (FrontIs (a .depth) (a .s .now) (a .at)) (c .enum-told .given .1) (c .before .before .value-front .ensures) u e w)))

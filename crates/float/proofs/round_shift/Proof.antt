@@ -27,7 +27,7 @@ add-if5 : tie.Need-add-if5
 add-if5 c =
     let h = c .before .before in
     let a = h .before .before .before .args in
-    record { fits = room-beside (a .m) (a .sh) (omega arith) (h .power .ensures) (c .low .ensures) (omega arith) }
+    record { fits = room-beside (a .m) (a .sh) (omega arith) (h .power .ensures) (c .low-bits .ensures) (omega arith) }
 
 add-result : tie.Need-add-result
 add-result c = let a = c .before .before .before .before .before .before .args in record { fits = room (a .m) (a .sh) (omega arith) (omega arith) }
@@ -36,13 +36,13 @@ returns-5 : tie.Need-returns-5
 returns-5 c =
     let h = c .before .before .before in
     let a = h .before .before .before .args in
-    up (a .m) (a .sh) (omega arith) (h .power .ensures) (c .before .low .ensures) (c .if5 .taken)
+    up (a .m) (a .sh) (omega arith) (h .power .ensures) (c .before .low-bits .ensures) (c .if5 .taken)
 
 returns-6 : tie.Need-returns-6
 returns-6 c =
     let h = c .before .before .before in
     let a = h .before .before .before .args in
-    down (a .m) (a .sh) (omega arith) (h .power .ensures) (c .before .low .ensures) (c .if5 .left)
+    down (a .m) (a .sh) (omega arith) (h .power .ensures) (c .before .low-bits .ensures) (c .if5 .left)
 
 pub round-shift-spec : {M : Type 1} → statement M
 round-shift-spec =

@@ -13,4 +13,4 @@ times-spec =
     -- mul-result
     (λ c. let a = c .before .before .args in record { fits = omega (arith, times-small (c .before .wide .result) (c .wide2 .result) 255 (search needs) (search needs)) })
     -- returns
-    (λ c. rw (c .before .wide .ensures, c .wide2 .ensures)))
+    (λ c. rw (c .before .wide .ensures .0, c .wide2 .ensures .0)))

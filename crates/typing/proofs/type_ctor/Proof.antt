@@ -1,10 +1,11 @@
--- What `read_target` says is what `readTarget` gives, and the answer follows from it.
+-- The target is read, then the arguments, and the type that is made of them follows.
 use mathlib.Core.Path.{sym, _∙_}
 use borrow.Author.Needs.{needs}
-use Rattle.ty.proofs.Targets.{meant}
+use Rattle.meaning.specs.Read.{readTys}
+use Rattle.ty.proofs.Targets.{meant, bad-target}
+use Rattle.args.proofs.Rest.{both-read, none-read}
 use Rattle.error.proofs.BufferAtExit.{refused}
-use Rattle.error.proofs.Told.{told-as}
-use Rattle.typing.proofs.TypingAnswers.{target-read, target-bad, type-whole}
+use Rattle.typing.proofs.TypingAnswers.{no-target, no-args, read-given, read-types}
 use Rattle.typing.proofs.type_ctor.Statement.{statement}
 use Rattle.typing.proofs.type_ctor.Tie as tie
 
@@ -12,23 +13,29 @@ pub type-ctor-spec : {M : Type 1} → statement M
 type-ctor-spec =
     tie.close
     (tie.spec
-    (λ c κs. search needs) (λ c. search needs)
-    -- to-type-requires
-    (λ c κs. let m = meant (c .before .before .before .before .before .before .before .args .target .now) (λ i. c .before .before .before .before .before .before .shared-slice-known .given i .fits) (sym (c .before .enum-told .given .1) ∙ c .before .before .before .read-target .ensures) in record { type = m .type; is = type-whole m })
-    (λ c. search needs) (λ c κs. search needs) (λ c. search needs) (λ c κs. search needs) (λ c. search needs) (λ c κs. search needs) (λ c. search needs)
-    (λ c κs. search needs) (λ c. search needs) (λ c. search needs)
+    (λ c κs. search needs) (λ c κs. search needs)
     -- returns
-    (λ c. let m = meant (c .before .before .before .before .before .before .before .before .before .before .args .target .now) (λ i. c .before .before .before .before .before .before .before .before .before .shared-slice-known .given i .fits) (sym (c .before .before .before .before .enum-told .given .1) ∙ c .before .before .before .before .before .before .read-target .ensures) in told-as (target-read _ _ _ (m .reads)) (c .before .before .to-type .ensures (m .type) (type-whole m)))
+    (λ c. refused 1 _ (no-target _ _ _ (bad-target _ (c .before .before .read-target .ensures) (sym (c .before .is-bad .ensures) ∙ c .if1 .taken))))
+    (λ c κs. search needs) (λ c. search needs)
+    -- target-given-requires
+    (λ c κs.
+    let v = c .before .before .before .before in
+    let t = v .before .before .before in
+    let a = t .before .before .before .before .args in
+    let q = t .read-target .ensures in
+    let x = both-read readTys (a .target .now) (a .args .now) q (sym (v .before .before .is-bad .ensures) ∙ v .before .if1 .left) (v .type-args .ensures) (c .before .before .n .given .1) in
+    (meant _ (λ i. t .before .before .before .shared-slice-known .given i .fits) q, record { types = x .items; given = read-given _ (λ i. t .before .before .shared-slice-known2 .given i .fits) x }))
+    (λ c. search needs) (λ c. search needs)
     -- returns-2
-    (λ c. let m = meant (c .before .before .before .before .before .before .before .args .target .now) (λ i. c .before .before .before .before .before .before .shared-slice-known .given i .fits) (sym (c .before .enum-told2 .given .1) ∙ c .before .before .before .read-target .ensures) in refused _ _ (target-read _ _ _ (m .reads) ∙ c .runtime-refusal .ensures (m .type) _))
-    (λ c. search needs)
+    (λ c.
+    let v = c .before .before .before .before .before .before .before in
+    let t = v .before .before .before in
+    let a = t .before .before .before .before .args in
+    let x = both-read readTys (a .target .now) (a .args .now) (t .read-target .ensures) (sym (v .before .before .is-bad .ensures) ∙ v .before .if1 .left) (v .type-args .ensures) (c .before .before .before .before .before .n .given .1) in
+    read-types _ _ x (c .before .before .target-given .ensures (x .items) (read-given _ (λ i. t .before .before .shared-slice-known2 .given i .fits) x)))
     -- returns-3
-    (λ c. let m = meant (c .before .before .before .before .before .before .before .before .before .before .args .target .now) (λ i. c .before .before .before .before .before .before .before .before .before .shared-slice-known .given i .fits) (sym (c .before .before .before .before .enum-told3 .given .1) ∙ c .before .before .before .before .before .before .read-target .ensures) in told-as (target-read _ _ _ m) (c .before .before .to-array .ensures))
-    (λ c. search needs)
-    -- returns-4
-    (λ c. let m = meant (c .before .before .before .before .before .before .before .before .before .before .before .args .target .now) (λ i. c .before .before .before .before .before .before .before .before .before .before .shared-slice-known .given i .fits) (sym (c .before .before .before .before .before .n .given .1) ∙ c .before .before .before .before .before .before .before .read-target .ensures) in told-as (target-read _ _ _ (m .0)) (c .before .before .to-vector .ensures))
-    (λ c. search needs)
-    -- returns-5
-    (λ c. let m = meant (c .before .before .before .before .before .before .before .before .before .before .before .args .target .now) (λ i. c .before .before .before .before .before .before .before .before .before .before .shared-slice-known .given i .fits) (sym (c .before .before .before .before .before .c .given .1) ∙ c .before .before .before .before .before .before .before .read-target .ensures) in told-as (target-read _ _ _ (m .0)) (c .before .before .to-matrix .ensures))
-    -- returns-6
-    (λ c. let m = meant (c .before .before .before .before .before .before .args .target .now) (λ i. c .before .before .before .before .before .shared-slice-known .given i .fits) (sym (c .enum-told4 .given .1) ∙ c .before .before .read-target .ensures) in refused 1 _ (target-bad _ _ _ m)))
+    (λ c.
+    let v = c .before .before in
+    let t = v .before .before .before in
+    let a = t .before .before .before .before .args in
+    refused 2 _ (no-args _ _ _ (none-read readTys (a .target .now) (a .args .now) (t .read-target .ensures) (sym (v .before .before .is-bad .ensures) ∙ v .before .if1 .left) (v .type-args .ensures) (c .enum-told .given .1)))))

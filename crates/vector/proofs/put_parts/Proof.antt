@@ -29,7 +29,7 @@ put-parts-spec =
     (λ c κs. let p = c .before .before .before .before .pre .some in args-some (c .before .loop .inv _ _ _ (p .no) (p .goes)) (c .loop-test .taken))
     -- next-arg-requires
     (λ c κs. let p = c .before .before .before .before .before .pre .some in args-some (c .before .before .loop .inv _ _ _ (p .no) (p .goes)) (c .before .loop-test .taken))
-    -- convert-requires
+    -- convert-items-requires
     (λ c κs.
     let p = c .before .before .before .before .before .before .before .pre in
     search (put-room (c .before .before .before .before .loop .inv _ _ _ (p .some .no) (p .some .goes))))

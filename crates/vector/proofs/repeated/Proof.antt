@@ -15,7 +15,7 @@ repeated-spec =
     (λ c j e g.
     let a = c .before .before .before .args in
     vector-long (a .n) (c .before .vector-len .ensures) j e (replicate (a .n) (a .bits)) (length-replicate (a .n) (a .bits)) (splat-good j (a .n) (a .bits) g) (a .out .now) (c .if1 .taken))
-    -- put-front-requires
+    -- put-three-requires
     (λ c κs. let k = c .before .before .before .before .pre in front-room (c .before .before .before .before .args .n) (c .before .before .vector-len .ensures) (k .kind) (k .no) (c .before .before .before .before .args .out .now) (c .before .if1 .left))
     -- put-literals-requires
     (λ c κs. search all-room)
@@ -24,5 +24,5 @@ repeated-spec =
     (λ c j e g.
     let a = c .before .before .before .before .before .before .before .before .before .before .before .args in
     let ps = replicate (a .n) (a .bits) in
-    vector-record (a .n) (c .before .before .before .before .before .before .before .before .before .vector-len .ensures) j e ps (length-replicate (a .n) (a .bits)) (splat-good j (a .n) (a .bits) g) (a .out .now) (c .before .before .before .before .before .before .before .before .if1 .left) (c .before .before .before .before .before .before .put-front .ensures)
+    vector-record (a .n) (c .before .before .before .before .before .before .before .before .before .vector-len .ensures) j e ps (length-replicate (a .n) (a .bits)) (splat-good j (a .n) (a .bits) g) (a .out .now) (c .before .before .before .before .before .before .before .before .if1 .left) (c .before .before .before .before .before .before .put-three .ensures)
     (copies-put j (a .n) (a .bits) e (c .before .before .put-literals .ensures))))

@@ -3,11 +3,11 @@ use mathlib.Core.Path.{refl}
 use native.Mathlib.Omega.{arith}
 use Rattle.derive.proofs.ValueFronts.{marked, none-marked}
 use borrow.Author.Needs.{needs}
-use Rattle.derive.proofs.front_at.Statement.{statement}
-use Rattle.derive.proofs.front_at.Tie as tie
+use Rattle.derive.proofs.value_front.Statement.{statement}
+use Rattle.derive.proofs.value_front.Tie as tie
 
-pub front-at-spec : {M : Type 1} → statement M
-front-at-spec =
+pub value-front-spec : {M : Type 1} → statement M
+value-front-spec =
     tie.close
     (tie.spec
     (λ c κs. search needs)

@@ -5,11 +5,11 @@ use Rattle.meaning.specs.Answers.{no}
 use Rattle.error.proofs.BufferAtExit.{builds-no}
 use Rattle.scalar.proofs.Results.{refusal-is}
 use Rattle.scalar.proofs.OneLiteral.{handed-no, handed-long, handed-room, handed-record}
-use Rattle.scalar.proofs.hand.Statement.{statement}
-use Rattle.scalar.proofs.hand.Tie as tie
+use Rattle.scalar.proofs.hand_literal.Statement.{statement}
+use Rattle.scalar.proofs.hand_literal.Tie as tie
 
-pub hand-spec : {M : Type 1} → statement M
-hand-spec =
+pub hand-literal-spec : {M : Type 1} → statement M
+hand-literal-spec =
     tie.close
     (tie.spec
     (λ c. search needs) (λ c κs. search needs)

@@ -4,8 +4,8 @@ use native.Mathlib.Omega.{arith}
 use lib.ListN.{length}
 use Rattle.zero.specs.Zeros.{vectorOf}
 use Rattle.record.proofs.Left.{Copies, copies-all, copies-room, copies-on, copies-end}
-use Rattle.zero.proofs.put_columns.Statement.{statement}
-use Rattle.zero.proofs.put_columns.Tie as tie
+use Rattle.zero.proofs.put_zero_columns.Statement.{statement}
+use Rattle.zero.proofs.put_zero_columns.Tie as tie
 
 abbrev Inv : tie.InvT-loop
 Inv c r k out₀ to p₀ left₀ out p left = (length out ≡ length out₀) × Copies (vectorOf r k) c out₀ to out p left
@@ -13,8 +13,8 @@ Inv c r k out₀ to p₀ left₀ out p left = (length out ≡ length out₀) × 
 abbrev μ : tie.MeasureT-loop
 μ c r k out₀ to p₀ left₀ out p left = left
 
-pub put-columns-spec : {M : Type 1} → statement M
-put-columns-spec =
+pub put-zero-columns-spec : {M : Type 1} → statement M
+put-zero-columns-spec =
     tie.close
     (tie.spec Inv μ
     -- loop-holds

@@ -1,4 +1,4 @@
--- `write_zero` calls `write_elements` and `write_members` at a depth one less, and both call it at their own depth: 2d for `write_zero` and 2d + 1 for the others.
+-- `write_zero` calls `put_zero_elements` and `put_zero_members` at a depth one less, and both call it at their own depth: 2d for `write_zero` and 2d + 1 for the others.
 use mathlib.Core.Path.{_≡_, refl, sym, _∙_}
 use Prim.Native.Nat.{ℕ, _+_, _*_, _<_}
 use native.Mathlib.Omega.{arith}
@@ -13,44 +13,44 @@ use Rattle.zero.proofs.Zeros.{scalar-room, vector-room, matrix-room, ar
 use Rattle.zero.proofs.Zeros.{EachLeft, each-room, each-on, each-end, AllLeft, all-room, all-on, all-end}
 use borrow.Fn.Kinds.{In}
 use borrow.Fn.PlainCycle.{Measures, is, falls, and}
-use Rattle.zero.proofs.write_elements.Reads as write-elements
-use Rattle.zero.proofs.write_elements.Kinds as write-elements-kinds
-use Rattle.zero.proofs.+write_elements+write_members+write_zero.Lts-write_elements as write-elements-lts
-use Rattle.zero.proofs.write_members.Reads as write-members
-use Rattle.zero.proofs.write_members.Kinds as write-members-kinds
-use Rattle.zero.proofs.+write_elements+write_members+write_zero.Lts-write_members as write-members-lts
+use Rattle.zero.proofs.put_zero_elements.Reads as put-zero-elements
+use Rattle.zero.proofs.put_zero_elements.Kinds as put-zero-elements-kinds
+use Rattle.zero.proofs.+put_zero_elements+put_zero_members+write_zero.Lts-put_zero_elements as put-zero-elements-lts
+use Rattle.zero.proofs.put_zero_members.Reads as put-zero-members
+use Rattle.zero.proofs.put_zero_members.Kinds as put-zero-members-kinds
+use Rattle.zero.proofs.+put_zero_elements+put_zero_members+write_zero.Lts-put_zero_members as put-zero-members-lts
 use Rattle.zero.proofs.write_zero.Reads as write-zero
 use Rattle.zero.proofs.write_zero.Kinds as write-zero-kinds
-use Rattle.zero.proofs.+write_elements+write_members+write_zero.Lts-write_zero as write-zero-lts
+use Rattle.zero.proofs.+put_zero_elements+put_zero_members+write_zero.Lts-write_zero as write-zero-lts
 use Rattle.ty.proofs.head_at.Reads as head-at-reads
 use Rattle.zero.proofs.put_array.Reads as put-array-reads
 use Rattle.zero.proofs.put_matrix.Reads as put-matrix-reads
 use Rattle.zero.proofs.put_struct.Reads as put-struct-reads
 use Rattle.zero.proofs.put_vector.Reads as put-vector-reads
 use Rattle.zero.proofs.put_zero.Reads as put-zero-reads
-use Rattle.zero.proofs.+write_elements+write_members+write_zero.{statement}
-use Rattle.zero.proofs.+write_elements+write_members+write_zero.Tie.{close}
+use Rattle.zero.proofs.+put_zero_elements+put_zero_members+write_zero.{statement}
+use Rattle.zero.proofs.+put_zero_elements+put_zero_members+write_zero.Tie.{close}
 
-abbrev μ-write-elements : Measures 2 write-elements-kinds.ps ℕ
-μ-write-elements κs a = 2 * a .1 .1 .1 .0 + 1
+abbrev μ-put-zero-elements : Measures 2 put-zero-elements-kinds.ps ℕ
+μ-put-zero-elements κs a = 2 * a .1 .1 .1 .0 + 1
 
-abbrev μ-write-members : Measures 2 write-members-kinds.ps ℕ
-μ-write-members κs a = 2 * a .1 .1 .1 .0 + 1
+abbrev μ-put-zero-members : Measures 2 put-zero-members-kinds.ps ℕ
+μ-put-zero-members κs a = 2 * a .1 .1 .1 .0 + 1
 
 abbrev μ-write-zero : Measures 2 write-zero-kinds.ps ℕ
 μ-write-zero κs a = 2 * a .1 .1 .0
 
-abbrev write-elements-at : ℕ → In 2 write-elements-kinds.ps
-write-elements-at t = and 2 write-elements-kinds.ps (is 2 write-elements-kinds.ps μ-write-elements t) write-elements.Pre
+abbrev put-zero-elements-at : ℕ → In 2 put-zero-elements-kinds.ps
+put-zero-elements-at t = and 2 put-zero-elements-kinds.ps (is 2 put-zero-elements-kinds.ps μ-put-zero-elements t) put-zero-elements.Pre
 
-abbrev write-elements-below : ℕ → In 2 write-elements-kinds.ps
-write-elements-below t = and 2 write-elements-kinds.ps (falls 2 write-elements-kinds.ps _<_ μ-write-elements t) write-elements.Pre
+abbrev put-zero-elements-below : ℕ → In 2 put-zero-elements-kinds.ps
+put-zero-elements-below t = and 2 put-zero-elements-kinds.ps (falls 2 put-zero-elements-kinds.ps _<_ μ-put-zero-elements t) put-zero-elements.Pre
 
-abbrev write-members-at : ℕ → In 2 write-members-kinds.ps
-write-members-at t = and 2 write-members-kinds.ps (is 2 write-members-kinds.ps μ-write-members t) write-members.Pre
+abbrev put-zero-members-at : ℕ → In 2 put-zero-members-kinds.ps
+put-zero-members-at t = and 2 put-zero-members-kinds.ps (is 2 put-zero-members-kinds.ps μ-put-zero-members t) put-zero-members.Pre
 
-abbrev write-members-below : ℕ → In 2 write-members-kinds.ps
-write-members-below t = and 2 write-members-kinds.ps (falls 2 write-members-kinds.ps _<_ μ-write-members t) write-members.Pre
+abbrev put-zero-members-below : ℕ → In 2 put-zero-members-kinds.ps
+put-zero-members-below t = and 2 put-zero-members-kinds.ps (falls 2 put-zero-members-kinds.ps _<_ μ-put-zero-members t) put-zero-members.Pre
 
 abbrev write-zero-at : ℕ → In 2 write-zero-kinds.ps
 write-zero-at t = and 2 write-zero-kinds.ps (is 2 write-zero-kinds.ps μ-write-zero t) write-zero.Pre
@@ -58,25 +58,25 @@ write-zero-at t = and 2 write-zero-kinds.ps (is 2 write-zero-kinds.ps μ-write-z
 abbrev write-zero-below : ℕ → In 2 write-zero-kinds.ps
 write-zero-below t = and 2 write-zero-kinds.ps (falls 2 write-zero-kinds.ps _<_ μ-write-zero t) write-zero.Pre
 
-abbrev Inv-each : write-elements-lts.InvT-loop
+abbrev Inv-each : put-zero-elements-lts.InvT-loop
 Inv-each ty at n depth out₀ to end₀ p₀ left₀ out end p left =
     (length out ≡ length out₀) × ((t : Ty) (e : ℕ) → Stands depth ty at t e → EachLeft t e n out₀ to end p left out)
 
-abbrev μ-each : write-elements-lts.MeasureT-loop
+abbrev μ-each : put-zero-elements-lts.MeasureT-loop
 μ-each ty at n depth out₀ to end₀ p₀ left₀ out end p left = left
 
-abbrev Inv-all : write-members-lts.InvT-loop
+abbrev Inv-all : put-zero-members-lts.InvT-loop
 Inv-all ty at n depth out₀ to i₀ p₀ left₀ out i p left =
     (length out ≡ length out₀) × ((m : Tys) (e : ℕ) → StandAll depth ty at n m e → AllLeft depth ty m e out₀ to i p left out)
 
-abbrev μ-all : write-members-lts.MeasureT-loop
+abbrev μ-all : put-zero-members-lts.MeasureT-loop
 μ-all ty at n depth out₀ to i₀ p₀ left₀ out i p left = left
 
-pub +write-elements+write-members+write-zero-spec : {M : Type 1} → statement M
-+write-elements+write-members+write-zero-spec =
-    close μ-write-elements μ-write-members μ-write-zero
+pub +put-zero-elements+put-zero-members+write-zero-spec : {M : Type 1} → statement M
++put-zero-elements+put-zero-members+write-zero-spec =
+    close μ-put-zero-elements μ-put-zero-members μ-write-zero
     (λ t.
-    write-elements-lts.spec (write-zero-below t, write-zero.Post) (write-elements-at t) write-elements.Post Inv-each μ-each
+    put-zero-elements-lts.spec (write-zero-below t, write-zero.Post) (put-zero-elements-at t) put-zero-elements.Post Inv-each μ-each
     -- loop-holds
     (λ c. let a = c .before .before .args in (refl, λ u e w. record { after = λ h. absurd (omega arith); rest = copies-all (valBytes (zeroOf u)) (a .n) (a .out .now) (a .to) }))
     -- write-zero-requires
@@ -94,7 +94,7 @@ pub +write-elements+write-members+write-zero-spec : {M : Type 1} → statement M
     -- returns
     (λ c u e w. each-end w (c .before .loop .inv .1 u e w) (c .before .before .before .before .pre .1 .some) (omega arith)))
     (λ t.
-    write-members-lts.spec (write-zero-below t, write-zero.Post) (write-members-at t) write-members.Post Inv-all μ-all
+    put-zero-members-lts.spec (write-zero-below t, write-zero.Post) (put-zero-members-at t) put-zero-members.Post Inv-all μ-all
     -- loop-holds
     (λ c. let a = c .before .before .args in (refl, λ m e w. record { types = m; stands = w; rest = left-all (a .out .now) (a .to) (valsBytes (zerosOf m)) }))
     -- write-zero-requires
@@ -113,7 +113,7 @@ pub +write-elements+write-members+write-zero-spec : {M : Type 1} → statement M
     (λ c m e w. all-end (c .before .loop .inv .1 m e w) (omega arith)))
     (λ t.
     write-zero-lts.spec
-    (head-at-reads.Asked, head-at-reads.Learnt, put-zero-reads.Asked, put-zero-reads.Learnt, put-vector-reads.Asked, put-vector-reads.Learnt, put-matrix-reads.Asked, put-matrix-reads.Learnt, put-array-reads.Asked, put-array-reads.Learnt, write-elements-below t, write-elements.Post, put-struct-reads.Asked, put-struct-reads.Learnt, write-members-below t, write-members.Post)
+    (head-at-reads.Asked, head-at-reads.Learnt, put-zero-reads.Asked, put-zero-reads.Learnt, put-vector-reads.Asked, put-vector-reads.Learnt, put-matrix-reads.Asked, put-matrix-reads.Learnt, put-array-reads.Asked, put-array-reads.Learnt, put-zero-elements-below t, put-zero-elements.Post, put-struct-reads.Asked, put-struct-reads.Learnt, put-zero-members-below t, put-zero-members.Post)
     (write-zero-at t) write-zero.Post
     -- head-at-requires
     (λ c κs. search room-stands)
@@ -130,9 +130,9 @@ pub +write-elements+write-members+write-zero-spec : {M : Type 1} → statement M
     -- put-array-requires
     (λ c κs. search array-room)
     (λ c. search needs)
-    -- sub-write-elements
+    -- sub-put-zero-elements
     (λ c. search array-deep)
-    -- write-elements-requires
+    -- put-zero-elements-requires
     (λ c κs.
     let p = c .before .before .before .before .before .before .before .before .before .before .before .pre .1 in
     let h = c .before .before .before .before .before .before .before .before .head-at .ensures in
@@ -142,9 +142,9 @@ pub +write-elements+write-members+write-zero-spec : {M : Type 1} → statement M
     -- put-struct-requires
     (λ c κs. search struct-room)
     (λ c. search needs)
-    -- sub-write-members
+    -- sub-put-zero-members
     (λ c. search struct-deep)
-    -- write-members-requires
+    -- put-zero-members-requires
     (λ c κs.
     let p = c .before .before .before .before .before .before .before .before .before .before .before .pre .1 in
     let h = c .before .before .before .before .before .before .before .before .head-at .ensures in
@@ -163,10 +163,10 @@ pub +write-elements+write-members+write-zero-spec : {M : Type 1} → statement M
     -- returns-3
     (λ c u e w. whole-done w (matrix-zero-is w (sym (c .before .before .before .before .before .c .given .1) ∙ c .before .before .before .before .before .before .before .head-at .ensures u e w)) (c .before .before .put-matrix .ensures))
     -- same-length-4
-    (λ c. c .before .before .write-elements .kept .1 .1 .1 .1 .0 ∙ c .before .before .before .before .before .before .put-array .kept .1 .0)
+    (λ c. c .before .before .put-zero-elements .kept .1 .1 .1 .1 .0 ∙ c .before .before .before .before .before .before .put-array .kept .1 .0)
     -- returns-4
-    (λ c u e w. array-done w (sym (c .before .before .before .before .before .before .before .before .before .n2 .given .1) ∙ c .before .before .before .before .before .before .before .before .before .before .before .head-at .ensures u e w) (c .before .before .before .before .before .before .put-array .ensures) (c .before .before .write-elements .ensures))
+    (λ c u e w. array-done w (sym (c .before .before .before .before .before .before .before .before .before .n2 .given .1) ∙ c .before .before .before .before .before .before .before .before .before .before .before .head-at .ensures u e w) (c .before .before .before .before .before .before .put-array .ensures) (c .before .before .put-zero-elements .ensures))
     -- same-length-5
-    (λ c. c .before .before .write-members .kept .1 .1 .1 .1 .0 ∙ c .before .before .before .before .before .before .put-struct .kept .1 .1 .0)
+    (λ c. c .before .before .put-zero-members .kept .1 .1 .1 .1 .0 ∙ c .before .before .before .before .before .before .put-struct .kept .1 .1 .0)
     -- returns-5
-    (λ c u e w. struct-done w (sym (c .before .before .before .before .before .before .before .before .before .i .given .1) ∙ c .before .before .before .before .before .before .before .before .before .before .before .head-at .ensures u e w) (c .before .before .before .before .before .before .put-struct .ensures) (c .before .before .write-members .ensures)))
+    (λ c u e w. struct-done w (sym (c .before .before .before .before .before .before .before .before .before .i .given .1) ∙ c .before .before .before .before .before .before .before .before .before .before .before .head-at .ensures u e w) (c .before .before .before .before .before .before .put-struct .ensures) (c .before .before .put-zero-members .ensures)))

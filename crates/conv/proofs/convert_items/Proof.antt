@@ -8,8 +8,8 @@ use lib.ListN.{length}
 use Rattle.meaning.specs.Kinds.{Kind, kindNo}
 use Rattle.conv.specs.Items.{Item, ItemsAt, convItem, convItems}
 use Rattle.conv.proofs.Walk.{next-item, next-less, Writing, write-all, write-room, write-on, write-end}
-use Rattle.conv.proofs.convert.Statement.{statement}
-use Rattle.conv.proofs.convert.Tie as tie
+use Rattle.conv.proofs.convert_items.Statement.{statement}
+use Rattle.conv.proofs.convert_items.Tie as tie
 
 abbrev Inv : tie.InvT-loop
 Inv src from end k out₀ to i₀ p₀ out i p =
@@ -18,8 +18,8 @@ Inv src from end k out₀ to i₀ p₀ out i p =
 abbrev μ : tie.MeasureT-loop
 μ src from end k out₀ to i₀ p₀ out i p = end - i
 
-pub convert-spec : {M : Type 1} → statement M
-convert-spec =
+pub convert-items-spec : {M : Type 1} → statement M
+convert-items-spec =
     tie.close
     (tie.spec Inv μ
     -- loop-holds
