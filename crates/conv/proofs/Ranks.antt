@@ -3,7 +3,7 @@ use mathlib.Core.Path.{_≡_, refl, sym, ap, ap₂, _∙_, subst}
 use mathlib.Core.Option.{Option, none, some}
 use mathlib.Core.List.{List, [], _∷_, _++_, append-nil}
 use mathlib.Core.Bool.{Bool, true, false, not, _&&_, cond}
-use Prim.Native.Nat.{ℕ, _-_, _≤_, _<_}
+use Prim.Native.Nat.{ℕ, _-_, _/_, _%_, _^_, _≤_, _<_}
 use native.Mathlib.Omega.{arith}
 use lib.Dec.{T, leb, eqb}
 use lib.ListN.{length, getD, length-append}
@@ -25,7 +25,7 @@ use Rattle.laws.proofs.Exact.{tys-exact}
 use Rattle.laws.proofs.Length.{bytes-same}
 use Rattle.laws.proofs.Same.{both, same-ty, same-refl}
 use Rattle.laws.proofs.Sound.{Bytes}
-use Rattle.kind.specs.Ends.{ofKind}
+use Rattle.kind.specs.Ends.{ofKind, numbered}
 use Rattle.literal.specs.LiteralAnswers.{rankOf, rankBetween}
 use Rattle.literal.specs.declared.Rank.the-variants.{At, Never}
 use Rattle.ty.specs.Targets.{TypeTarget}
@@ -38,7 +38,7 @@ use Rattle.ty.proofs.Leaves.{leaf-last}
 use Rattle.ty.proofs.Targets.{whole-bytes, whole-good, of-target}
 use Rattle.record.proofs.Places.{at-of}
 use Rattle.record.proofs.Equal.{both-ways, bytes-path, bytes-refl}
-use Rattle.conv.specs.Ranked.{Whole, KindConverts, front, rankRead}
+use Rattle.conv.specs.Ranked.{Whole, kindsFrom, KindConverts, front, rankRead}
 
 -- ---- the kind at the bottom, as `leaf_at` answers it
 
@@ -73,49 +73,36 @@ between a b e f = rw (e, f, kind-back a, kind-back b)
 
 -- ---- scalars by their kinds
 
--- by comparisons of their numbers: a kind to itself, AbstractInt (1) to all but Bool (0), AbstractFloat (2) to F32 (5) and F16 (6)
-unfoldable pub goesTo : ℕ → ℕ → Bool
-goesTo j k = cond (eqb j k) true (cond (eqb j 1) (not (eqb k 0)) (cond (eqb j 2) (cond (eqb k 5) true (eqb k 6)) false))
+pub for-kinds : (P : Kind → Type 0) → P bool → P aint → P afloat → P i32 → P u32 → P f32 → P f16 → (k : Kind) → P k
+for-kinds P p q r s t u v bool = p
+for-kinds P p q r s t u v aint = q
+for-kinds P p q r s t u v afloat = r
+for-kinds P p q r s t u v i32 = s
+for-kinds P p q r s t u v u32 = t
+for-kinds P p q r s t u v f32 = u
+for-kinds P p q r s t u v f16 = v
 
-only-same : (x : Bool) → some? {A = ℕ} (cond x (some 0) none) ≡ cond x true false
-unfolding some?
-only-same true = refl
-only-same false = refl
+-- the bit of b among the kinds to which a converts
+abbrev BitIs : Kind → Kind → Type 0
+BitIs a b = eqb (kindsFrom a / 2 ^ kindNo b % 2) 1 ≡ some? (kindRank a b)
 
-ranked : (a b : Kind) → some? (kindRank a b) ≡ goesTo (kindNo a) (kindNo b)
-unfolding some? kindRank fromSame fromAint fromAfloat sameKind kindNo goesTo
-ranked bool b = only-same (sameKind bool b)
-ranked aint bool = refl
-ranked aint aint = refl
-ranked aint afloat = refl
-ranked aint i32 = refl
-ranked aint u32 = refl
-ranked aint f32 = refl
-ranked aint f16 = refl
-ranked afloat bool = refl
-ranked afloat aint = refl
-ranked afloat afloat = refl
-ranked afloat i32 = refl
-ranked afloat u32 = refl
-ranked afloat f32 = refl
-ranked afloat f16 = refl
-ranked i32 b = only-same (sameKind i32 b)
-ranked u32 b = only-same (sameKind u32 b)
-ranked f32 b = only-same (sameKind f32 b)
-ranked f16 b = only-same (sameKind f16 b)
+bit-is : (a b : Kind) → BitIs a b
+unfolding some? kindRank fromSame fromAint fromAfloat sameKind kindNo kindsFrom
+bit-is bool = for-kinds (BitIs bool) refl refl refl refl refl refl refl
+bit-is aint = for-kinds (BitIs aint) refl refl refl refl refl refl refl
+bit-is afloat = for-kinds (BitIs afloat) refl refl refl refl refl refl refl
+bit-is i32 = for-kinds (BitIs i32) refl refl refl refl refl refl refl
+bit-is u32 = for-kinds (BitIs u32) refl refl refl refl refl refl refl
+bit-is f32 = for-kinds (BitIs f32) refl refl refl refl refl refl refl
+bit-is f16 = for-kinds (BitIs f16) refl refl refl refl refl refl refl
 
 pub kind-most : (k : Kind) → kindNo k ≤ 6
 unfolding kindNo
-kind-most bool = omega arith
-kind-most aint = omega arith
-kind-most afloat = omega arith
-kind-most i32 = omega arith
-kind-most u32 = omega arith
-kind-most f32 = omega arith
-kind-most f16 = omega arith
+kind-most = for-kinds (λ k. kindNo k ≤ 6) (omega arith) (omega arith) (omega arith) (omega arith) (omega arith) (omega arith) (omega arith)
 
-pub kind-goes : {from to : ℕ} (a b : Kind) → from ≡ kindNo a → to ≡ kindNo b → goesTo from to ≡ converts (Ts a) (Ts b)
-kind-goes a b e f = rw (e, f) (sym (converts-lit a b ∙ ranked a b))
+pub kind-goes : {from to : ℕ} (a b : Kind) → from ≡ kindNo a → to ≡ kindNo b → eqb (numbered kindsFrom from / 2 ^ to % 2) 1 ≡ converts (Ts a) (Ts b)
+unfolding ofKind
+kind-goes a b e f = rw (e, f, kind-back a) (bit-is a b ∙ sym (converts-lit a b))
 
 -- a type of three bytes is a scalar
 pub three-scalar : {s : List ℕ} {t : Ty} → Whole s t → length s ≡ 3 → ScalarIs 15 s 0 (getD s 2 0) t (length s)

@@ -4,7 +4,7 @@ use mathlib.Core.List.{List}
 use mathlib.Core.Bool.{Bool}
 use Prim.Native.Nat.{ℕ, _-_}
 use lib.ListN.{length, take}
-use Rattle.meaning.specs.Kinds.{Kind, kindNo}
+use Rattle.meaning.specs.Kinds.{Kind, bool, aint, afloat, i32, u32, f32, f16, kindNo}
 use Rattle.meaning.specs.Trees.{Ty, Ts, Target, Of, Tr}
 use Rattle.meaning.specs.Read.{readTys}
 use Rattle.meaning.specs.Answers.{Result, ok, no, orNo, _>>=_}
@@ -30,6 +30,16 @@ RankIs a b r = (t u : Ty) → Whole a t → Whole b u → r ≡ rankOf (rank t u
 -- whether that type converts to this
 abbrev pub ConvertsIs : List ℕ → List ℕ → Bool → Type 0
 ConvertsIs a b r = (t u : Ty) → Whole a t → Whole b u → r ≡ converts t u
+
+-- the kinds to which a kind converts, a bit for each by its number
+unfoldable pub kindsFrom : Kind → ℕ
+kindsFrom bool = 1
+kindsFrom aint = 126
+kindsFrom afloat = 100
+kindsFrom i32 = 8
+kindsFrom u32 = 16
+kindsFrom f32 = 32
+kindsFrom f16 = 64
 
 -- whether the scalar of the one kind converts to the other's, by their numbers
 abbrev pub KindConverts : ℕ → ℕ → Bool → Type 0

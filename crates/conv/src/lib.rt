@@ -11,8 +11,9 @@ ghost use Prim.Native.Nat.{_≤_, _<_, _+_, _-_};
 ghost use lib.ListN.{length, getD};
 ghost use Rattle.meaning.specs.Scalars.{some?};
 ghost use Rattle.meaning.specs.Entries.{rankAnswer};
+ghost use Rattle.kind.specs.Ends.{numbered};
 ghost use Rattle.record.specs.Bytes.{sameBytes};
-ghost use Rattle.conv.specs.Ranked.{OneType, RankIs, ConvertsIs, KindConverts, front, paper, RanksTo, RanksToRuntime};
+ghost use Rattle.conv.specs.Ranked.{OneType, RankIs, ConvertsIs, kindsFrom, KindConverts, front, paper, RanksTo, RanksToRuntime};
 ghost use Rattle.record.specs.Literals.{widthOf};
 ghost use Rattle.conv.specs.Items.{SomeItem, SomeItems, literalAs, literalTo, EndIs, ItemFits, ItemRoom, ItemPut, Fits, Convertible, Converts};
 ghost use Rattle.conv.specs.Values.{SomeValueTo, ValueFits, ValueRoom, ValuePut};
@@ -58,28 +59,34 @@ pub fn type_rank(a: &[u8], b: &[u8]) -> Rank
     Rank::Never
 }
 
-// Whether a scalar of the one kind converts to the other: where there is a rank, told without it, since every literal of a list is asked. A kind converts to itself,
-// AbstractInt to every kind but Bool, AbstractFloat to F32 and F16.
+// The kinds to which a scalar of a kind converts, a bit for each by its number: its own, from AbstractInt every kind but Bool, from AbstractFloat also F32 and F16.
+fn kinds_from(from: u8) -> u8
+    ensures { λ r. ⌜ r ≡ numbered kindsFrom from ⌝ }
+{
+    match from {
+        Scalar::BOOL => 0b000_0001,
+        Scalar::ABSTRACT_INT => 0b111_1110,
+        Scalar::ABSTRACT_FLOAT => 0b110_0100,
+        Scalar::I32 => 0b000_1000,
+        Scalar::U32 => 0b001_0000,
+        Scalar::F32 => 0b010_0000,
+        Scalar::F16 => 0b100_0000,
+        _ => 0,
+    }
+}
+
+// Whether a scalar of the one kind converts to the other: where there is a rank, told without it and without a branch, since every literal of a list is asked.
 pub fn kind_converts(from: u8, to: u8) -> bool
     ensures { λ r. ⌜ KindConverts from to r ⌝ }
 {
-    // a number over 6 is no kind's; said first, it lets the compiler know the length of what is compared
+    // a number over 6 is no kind's; said first, it lets the compiler know the length of the literals that are asked about
+    if from > Scalar::F16 {
+        return false;
+    }
     if to > Scalar::F16 {
         return false;
     }
-    if from == to {
-        return true;
-    }
-    if from == Scalar::ABSTRACT_INT {
-        return to != Scalar::BOOL;
-    }
-    if from == Scalar::ABSTRACT_FLOAT {
-        if to == Scalar::F32 {
-            return true;
-        }
-        return to == Scalar::F16;
-    }
-    false
+    (kinds_from(from) >> to) % 2 == 1
 }
 
 // Whether the type a converts to the type b, whatever they are.
