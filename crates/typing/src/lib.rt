@@ -110,7 +110,12 @@ fn target_given(found: Target, target: &[u8], args: &[u8], count: usize, out: &m
         Target::Runtime => Written::Refused(Refusal::NOT_TYPED),
         Target::Array => answer_array(args, count, out),
         Target::Vector(n) => answer_vector(n, infer_type::name_vector(n, args, count), out),
-        Target::Matrix(c, r) => answer_matrix(c, r, infer_type::name_matrix(c, r, args, count), out),
+        Target::Matrix(c, r) => answer_matrix(
+            c,
+            r,
+            infer_type::name_matrix(c, r, args, count),
+            out,
+        ),
         Target::Bad => Written::Refused(Refusal::BAD_TARGET),
     }
 }
