@@ -2,10 +2,11 @@
 // between its parts, numbers in decimal, a newline at the end."
 use error::Refusal;
 use error::Written;
+use record::join;
 use record::put_byte;
 use record::put_pair;
 use record::put_three;
-use record::wide;
+use record::size;
 ghost use mathlib.Core.Path.{_≡_};
 ghost use mathlib.Core.List.{[], _∷_, _++_};
 ghost use Prim.Native.Nat.{_+_, _*_, _/_, _%_, _≤_, _<_};
@@ -32,7 +33,7 @@ pub fn split(input: &[u8]) -> Input
     if input.len() < 3 {
         return Input::Bad;
     }
-    let n = wide(input[1]) + 256 * wide(input[2]);
+    let n = size(join(input[1], input[2]));
     if input.len() < 3 + n {
         return Input::Bad;
     }

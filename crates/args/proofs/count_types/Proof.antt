@@ -37,7 +37,7 @@ count-types-spec =
     let a = c .before .before .before .before .before .before .before .before .before .args in
     let l = c .before .before .before .before .before .before .before .loop in
     let f = subst (Told (Ends (a .depth) (a .s .now) (l .i))) (c .before .before .e .given .1) (c .before .before .before .before .type-end .ensures) in
-    left-bad tyBytes (TypeArg (a .depth) (a .most)) (a .s .now) (l .i) (l .n) (l .inv) (c .before .before .before .before .before .before .loop-test .taken)
+    left-bad tyBytes (TypeArg (a .depth) (a .most)) (a .s .now) (l .i) (l .n) (l .inv) (search)
     (λ h.
     let v = type-head (a .depth) (a .most) (a .s .now) (l .i) h in
     let q : length (tyBytes (v .type)) ≡ length (tyBytes (f .type)) = ap (λ (t : Ty). length (tyBytes t)) (same-type (v .stands) (f .stands)) in
@@ -51,14 +51,14 @@ count-types-spec =
     left-bad tyBytes (TypeArg (a .depth) (a .most)) (a .s .now) (l .i) (l .n) (l .inv) (c .before .before .before .before .loop-test .taken)
     (λ h. let v = type-head (a .depth) (a .most) (a .s .now) (l .i) h in f _ (record { type = v .type; stands = v .stands })))
     -- add-n
-    (λ c. record { fits = omega (arith, c .before .before .before .before .before .before .before .loop .inv .few) })
+    (λ c. record { fits = omega arith })
     -- loop-less
-    (λ c. omega (arith, c .before .before .before .before .before .before .before .loop .inv .few, c .before .before .before .before .before .if1 .left))
+    (λ c. omega (arith, c .before .before .before .before .before .if1 .left))
     -- loop-again
     (λ c.
     let a = c .before .before .before .before .before .before .before .before .before .args in
     let l = c .before .before .before .before .before .before .before .loop in
     let f = subst (Told (Ends (a .depth) (a .s .now) (l .i))) (c .before .before .e .given .1) (c .before .before .before .before .type-end .ensures) in
-    type-left (a .depth) (a .most) (a .s .now) (l .i) (l .n) (l .inv) (c .before .before .before .before .before .before .loop-test .taken) (omega (arith, l .inv .few, c .before .before .before .before .before .if1 .left)) (f .type) _ (f .stands) (omega (arith, f .stands .size, c .if2 .left)))
+    type-left (a .depth) (a .most) (a .s .now) (l .i) (l .n) (l .inv) (search) (omega (arith, l .inv .few, c .before .before .before .before .before .if1 .left)) (f .type) _ (f .stands) (omega (arith, f .stands .size, c .if2 .left)))
     -- returns-4
     (λ c. let a = c .before .before .before .args in let l = c .before .loop in left-none tyBytes (TypeArg (a .depth) (a .most)) (a .s .now) (l .i) (l .n) (l .inv) (c .loop-test .left)))

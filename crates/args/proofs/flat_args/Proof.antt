@@ -34,6 +34,6 @@ flat-args-spec =
     (λ c.
     let l = c .before .before .before .before .before .before .loop in
     flat-left (l .inv) (c .before .before .before .before .before .loop-test .taken) (omega (arith, l .inv 2 7 (omega arith) (omega arith) .few, c .before .before .before .before .if1 .left))
-    (subst (Flat (c .before .before .before .before .before .before .before .before .args .s .now) (l .i)) (c .before .e .given .1) (c .before .before .before .flat-end .ensures)))
+    (subst (Flat _ (l .i)) (c .before .e .given .1) (c .before .before .before .flat-end .ensures)))
     -- returns-3
     (λ c. c .before .loop .inv))

@@ -53,10 +53,10 @@ head-of-spec =
     (λ c. omega (arith, struct-arg (c .before .before .before .before .before .before .before .before .pre .row) (c .before .before .before .before .before .if1 .left) (c .before .before .before .before .if2 .left) (c .before .before .before .if3 .left) (c .before .before .if4 .left) .room))
     (λ c κs. search needs) (λ c. search needs)
     -- shared-slice-read-join-5
-    (λ c. omega (arith, struct-arg (c .before .before .before .before .before .before .before .before .before .before .pre .row) (c .before .before .before .before .before .before .before .if1 .left) (c .before .before .before .before .before .before .if2 .left) (c .before .before .before .before .before .if3 .left) (c .before .before .before .before .if4 .left) .room))
+    (λ c. omega (arith, struct-arg (c .before .before .before .before .before .before .before .before .before .before .pre .row) (search) (search) (c .before .before .before .before .before .if3 .left) (c .before .before .before .before .if4 .left) .room))
     (λ c. search needs)
     -- shared-slice-read-join-6
-    (λ c. omega (arith, struct-arg (c .before .before .before .before .before .before .before .before .before .before .before .pre .row) (c .before .before .before .before .before .before .before .before .if1 .left) (c .before .before .before .before .before .before .before .if2 .left) (c .before .before .before .before .before .before .if3 .left) (c .before .before .before .before .before .if4 .left) .room))
+    (λ c. omega (arith, struct-arg (c .before .before .before .before .before .before .before .before .before .before .before .pre .row) (search) (search) (search) (c .before .before .before .before .before .if4 .left) .room))
     (λ c κs. search needs)
     -- returns-5
-    (λ c v l x. struct-first x (struct-arg x (c .before .before .before .before .before .before .before .before .before .if1 .left) (c .before .before .before .before .before .before .before .before .if2 .left) (c .before .before .before .before .before .before .before .if3 .left) (c .before .before .before .before .before .before .if4 .left)) (c .before .before .before .join2 .ensures) (c .join3 .ensures)))
+    (λ c v l x. struct-first x (struct-arg x (search) (search) (search) (search)) (c .before .before .before .join2 .ensures) (c .join3 .ensures)))

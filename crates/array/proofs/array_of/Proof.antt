@@ -29,12 +29,12 @@ array-of-spec =
     (λ c κs.
     let p = c .before .before .before .before .before .before .before .before .before .before .pre in
     let w = p .whole in
-    let b = become _ _ (sym (c .before .before .before .before .before .before .all-convert .ensures _ _ _ (p .given .row) (array-elem w)) ∙ not-false (c .before .before .before .before .before .before .all-convert .result) (c .before .before .before .before .before .if1 .left)) in
+    let b = become _ _ (sym (c .before .before .before .before .before .before .all-convert .ensures _ _ _ (p .given .row) (array-elem w)) ∙ not-false _ (c .before .before .before .before .before .if1 .left)) in
     record { type = _; end = _; values = _; intos = b .intos; elements = record { given = p .given; least = p .least; stands = array-elem w; goes = b .goes } })
     (λ c. search needs)
     -- returns-3
     (λ c n t l w g.
-    let b = become t l (sym (c .before .before .before .before .before .before .before .before .before .all-convert .ensures l t _ (g .row) (array-elem w)) ∙ not-false (c .before .before .before .before .before .before .before .before .before .all-convert .result) (c .before .before .before .before .before .before .before .before .if1 .left)) in
+    let b = become t l (sym (c .before .before .before .before .before .before .before .before .before .all-convert .ensures l t _ (g .row) (array-elem w)) ∙ not-false _ (search)) in
     let k = c .before .before .before .before .if2 .left ∙ (c .before .before .before .before .before .join .ensures ∙ array-count w) in
     builds-as _ (array-ok t l b (sym (g .count) ∙ k))
     (c .before .before .write-array .ensures t _ l (b .intos) record { given = g; least = c .before .before .before .before .before .before .before .before .before .before .before .before .before .pre .least; stands = array-elem w; goes = b .goes })))

@@ -39,7 +39,7 @@ qa-of-spec =
     (λ c l g.
     let o = c .before .before .before .before .before .before .before .before .before .before .before .common-type-of in
     let f = common-of _ (o .result) (o .last .1 .1 .0) (o .ensures l (g .row)) (c .before .before .before .before .before .before .before .before .enum-told .given .1) in
-    let b = become (f .type) l (sym (c .before .before .before .before .before .before .all-fit .ensures l (f .type) _ (g .row) (f .stands)) ∙ not-false (c .before .before .before .before .before .before .all-fit .result) (c .before .before .before .before .before .if1 .left)) in
+    let b = become (f .type) l (sym (c .before .before .before .before .before .before .all-fit .ensures l (f .type) _ (g .row) (f .stands)) ∙ not-false _ (c .before .before .before .before .before .if1 .left)) in
     builds-as _ (qa-ok l (f .is) b) (c .before .before .write-array .ensures (f .type) _ l (b .intos) record { given = g; least = c .before .before .before .before .before .before .before .before .before .before .before .before .before .before .before .pre .0; stands = f .stands; goes = b .goes }))
     -- returns-3
     (λ c l g.

@@ -16,7 +16,7 @@ write-array-spec =
     (λ c κs. c .before .before .before .before .pre .elements .least)
     -- returns
     (λ c t e l ws x.
-    array-no x (c .before .before .before .before .before .before .args .out .now) (c .before .takes-array .ensures _ _ (c .before .before .value-len .ensures _ _ (x .stands))) (not-true (c .before .takes-array .result) (c .if1 .taken)))
+    array-no x _ (c .before .takes-array .ensures _ _ (c .before .before .value-len .ensures _ _ (x .stands))) (not-true (c .before .takes-array .result) (c .if1 .taken)))
     -- put-mark-requires
     (λ c κs.
     let x = c .before .before .before .before .before .before .before .pre .elements in
@@ -29,7 +29,7 @@ write-array-spec =
     -- write-all-requires
     (λ c κs.
     let x = c .before .before .before .before .before .before .before .before .before .before .before .before .before .before .before .pre .elements in
-    let h = array-fits x (c .before .before .before .before .before .before .before .before .before .before .before .before .before .before .before .args .out .now) (c .before .before .before .before .before .before .before .before .before .before .takes-array .ensures _ _ (c .before .before .before .before .before .before .before .before .before .before .before .value-len .ensures _ _ (x .stands))) (not-false (c .before .before .before .before .before .before .before .before .before .before .takes-array .result) (c .before .before .before .before .before .before .before .before .before .if1 .left)) in
+    let h = array-fits x (c .before .before .before .before .before .before .before .before .before .before .before .before .before .before .before .args .out .now) (c .before .before .before .before .before .before .before .before .before .before .takes-array .ensures _ _ (c .before .before .before .before .before .before .before .before .before .before .before .value-len .ensures _ _ (x .stands))) (not-false (c .before .before .before .before .before .before .before .before .before .before .takes-array .result) (search)) in
     record {
       values = _;
       row = x .given .row;
@@ -43,5 +43,5 @@ write-array-spec =
     (λ c. search needs)
     -- returns-2
     (λ c t e l ws x.
-    array-yes x _ (array-fits x (c .before .before .before .before .before .before .before .before .before .before .before .before .before .before .before .before .before .before .args .out .now) (c .before .before .before .before .before .before .before .before .before .before .before .before .before .takes-array .ensures _ _ (c .before .before .before .before .before .before .before .before .before .before .before .before .before .before .value-len .ensures _ _ (x .stands))) (not-false (c .before .before .before .before .before .before .before .before .before .before .before .before .before .takes-array .result) (c .before .before .before .before .before .before .before .before .before .before .before .before .if1 .left)))
-    (c .before .before .before .before .before .before .before .before .before .before .put-mark .ensures) (c .before .before .before .before .before .before .put-le .ensures) (c .before .before .write-all .ensures l t e ws (x .given .row) (x .stands) (x .goes))))
+    array-yes x _ (array-fits x (c .before .before .before .before .before .before .before .before .before .before .before .before .before .before .before .before .before .before .args .out .now) (c .before .before .before .before .before .before .before .before .before .before .before .before .before .takes-array .ensures _ _ (c .before .before .before .before .before .before .before .before .before .before .before .before .before .before .value-len .ensures _ _ (x .stands))) (not-false (c .before .before .before .before .before .before .before .before .before .before .before .before .before .takes-array .result) (search)))
+    (c .before .before .before .before .before .before .before .before .before .before .put-mark .ensures) (search) (c .before .before .write-all .ensures l t e ws (x .given .row) (x .stands) (x .goes))))

@@ -36,7 +36,7 @@ write-members-spec =
     -- loop-less
     (λ c.
     let p = c .before .before .before .before .before .before .before .before .before .before .before .pre in
-    omega (arith, put-less (c .before .before .before .before .before .before .before .loop .inv _ _ _ (p .pairs) (p .goes)) (c .before .before .before .before .before .before .loop-test .taken) (c .before .before .before .before .before .next-arg .ensures)))
+    omega (arith, put-less (c .before .before .before .before .before .before .before .loop .inv _ _ _ (p .pairs) (p .goes)) (search) (c .before .before .before .before .before .next-arg .ensures)))
     -- loop-again
     (λ c m l ws x g. search (put-on (c .before .before .before .before .before .before .before .loop .inv m l ws x g)))
     -- same-length

@@ -14,7 +14,7 @@ write-struct-spec =
     (λ c κs. search struct-stands)
     (λ c κs. search needs)
     -- returns
-    (λ c i m l ws x. made-no x (c .before .before .before .before .before .before .args .out .now) (c .before .takes .ensures _ _ (c .before .before .value-len .ensures _ _ (x .struct .whole))) (not-true (c .before .takes .result) (c .if1 .taken)))
+    (λ c i m l ws x. made-no x _ (c .before .takes .ensures _ _ (c .before .before .value-len .ensures _ _ (x .struct .whole))) (not-true (c .before .takes .result) (c .if1 .taken)))
     -- put-mark-requires
     (λ c κs.
     let x = c .before .before .before .before .before .before .before .pre .made in
@@ -27,7 +27,7 @@ write-struct-spec =
     -- write-members-requires
     (λ c κs.
     let x = c .before .before .before .before .before .before .before .before .before .before .before .before .before .before .before .pre .made in
-    let h = made-room x (c .before .before .before .before .before .before .before .before .before .before .before .before .before .before .before .args .out .now) (c .before .before .before .before .before .before .before .before .before .before .takes .ensures _ _ (c .before .before .before .before .before .before .before .before .before .before .before .value-len .ensures _ _ (x .struct .whole))) (not-false (c .before .before .before .before .before .before .before .before .before .before .takes .result) (c .before .before .before .before .before .before .before .before .before .if1 .left)) in
+    let h = made-room x (c .before .before .before .before .before .before .before .before .before .before .before .before .before .before .before .args .out .now) (c .before .before .before .before .before .before .before .before .before .before .takes .ensures _ _ (c .before .before .before .before .before .before .before .before .before .before .before .value-len .ensures _ _ (x .struct .whole))) (not-false (c .before .before .before .before .before .before .before .before .before .before .takes .result) (search)) in
     record {
       types = _;
       values = _;
@@ -39,6 +39,6 @@ write-struct-spec =
     (λ c. search needs)
     -- returns-2
     (λ c i m l ws x.
-    made-yes x _ (made-room x (c .before .before .before .before .before .before .before .before .before .before .before .before .before .before .before .before .before .before .args .out .now) (c .before .before .before .before .before .before .before .before .before .before .before .before .before .takes .ensures _ _ (c .before .before .before .before .before .before .before .before .before .before .before .before .before .before .value-len .ensures _ _ (x .struct .whole))) (not-false (c .before .before .before .before .before .before .before .before .before .before .before .before .before .takes .result) (c .before .before .before .before .before .before .before .before .before .before .before .before .if1 .left)))
-    (c .before .before .before .before .before .before .before .before .before .before .put-mark .ensures) (c .before .before .before .before .before .before .copy .ensures)
+    made-yes x _ (made-room x (c .before .before .before .before .before .before .before .before .before .before .before .before .before .before .before .before .before .before .args .out .now) (c .before .before .before .before .before .before .before .before .before .before .before .before .before .takes .ensures _ _ (c .before .before .before .before .before .before .before .before .before .before .before .before .before .before .value-len .ensures _ _ (x .struct .whole))) (not-false (c .before .before .before .before .before .before .before .before .before .before .before .before .before .takes .result) (search)))
+    (c .before .before .before .before .before .before .before .before .before .before .put-mark .ensures) (search)
     (c .before .before .write-members .ensures m l ws (struct-pairs (x .struct .whole) (x .struct .row) (x .count)) (x .goes))))

@@ -21,4 +21,4 @@ mat-ctor-spec =
     (λ c κs. search more-given)
     (λ c. search needs)
     -- returns-2
-    (λ c s j e q l g. builds-more (build s (Of (Tm _ _ j))) l g (omega (arith, c .before .before .before .before .before .before .before .pre .4, c .before .before .before .before .if1 .left)) (λ v u m x. c .before .before .mat-parts .ensures j v _ q (x .row) (x .count))))
+    (λ c s j e q l g. builds-more (build s (Of (Tm _ _ j))) l g (omega (arith, c .before .before .before .before .if1 .left)) (λ v u m x. c .before .before .mat-parts .ensures j v _ q (x .row) (x .count))))

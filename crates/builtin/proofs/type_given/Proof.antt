@@ -58,11 +58,11 @@ type-given-spec =
     -- returns-5
     (λ c s t e w l g.
     let x = array-is w (sym (c .before .before .before .before .enum-told .given .1) ∙ c .before .before .before .before .before .before .head-at .ensures _ _ w) in
-    let h = array-build s _ (x .elem) l (g .count) (omega (arith, c .before .before .before .before .before .before .before .if1 .left)) in
+    let h = array-build s _ (x .elem) l (g .count) (omega arith) in
     builds-as _ (ap (λ (u : Ty). build s (Of u) l) (x .is) ∙ h) (c .before .before .array-of .ensures _ (x .elem) l (subst (Whole _) (x .is) w) g))
     (λ c. search needs)
     -- returns-6
     (λ c s t e w l g.
     let x = struct-is w (sym (c .before .before .before .before .enum-told2 .given .1) ∙ c .before .before .before .before .before .before .head-at .ensures _ _ w) in
-    let h = struct-build s _ (x .members) l (g .count) (omega (arith, c .before .before .before .before .before .before .before .if1 .left)) in
+    let h = struct-build s _ (x .members) l (g .count) (omega arith) in
     builds-as _ (ap (λ (u : Ty). build s (Of u) l) (x .is) ∙ h) (c .before .before .struct-of .ensures _ (x .members) l (subst (Whole _) (x .is) w) g)))

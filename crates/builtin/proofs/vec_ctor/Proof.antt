@@ -21,4 +21,4 @@ vec-ctor-spec =
     (λ c κs. let p = c .before .before .before .before .pre in (p .1, (p .2, record { values = p .4 .values; row = p .4 .given .row })))
     (λ c. search needs)
     -- returns-2
-    (λ c s j e q l g. builds-more (build s (Of (Tv _ j))) l g (omega (arith, c .before .before .before .before .before .before .before .pre .3, c .before .before .before .before .if1 .left)) (λ v u m x. c .before .before .vec-parts .ensures j _ q (x .row))))
+    (λ c s j e q l g. builds-more (build s (Of (Tv _ j))) l g (omega (arith, c .before .before .before .before .if1 .left)) (λ v u m x. c .before .before .vec-parts .ensures j _ q (x .row))))

@@ -26,8 +26,8 @@ check-scalar-spec =
     -- returns-4
     (λ c j l e g.
     let x = given-one g (c .before .before .before .if3 .left) in
-    of-one (Ts j) (scalar-typeable j e (c .before .before .before .before .before .before .is-abstract .ensures) (c .before .before .before .before .before .if1 .left)) (x .is) ∙ scalar-one j (x .type) (found-kind (litKind (x .type)) (sym (c .enum-told .given .1) ∙ c .before .before .scalar-kind .ensures (x .type) _ (x .whole))))
+    of-one (Ts j) (scalar-typeable j e (search) (c .before .before .before .before .before .if1 .left)) (x .is) ∙ scalar-one j (x .type) (found-kind (litKind (x .type)) (sym (c .enum-told .given .1) ∙ c .before .before .scalar-kind .ensures (x .type) _ (x .whole))))
     -- returns-5
     (λ c j l e g.
     let x = given-one g (c .before .before .before .if3 .left) in
-    of-one (Ts j) (scalar-typeable j e (c .before .before .before .before .before .before .is-abstract .ensures) (c .before .before .before .before .before .if1 .left)) (x .is) ∙ scalar-not j (x .type) (found-none (litKind (x .type)) (sym (c .enum-told2 .given .1) ∙ c .before .before .scalar-kind .ensures (x .type) _ (x .whole)))))
+    of-one (Ts j) (scalar-typeable j e (search) (c .before .before .before .before .before .if1 .left)) (x .is) ∙ scalar-not j (x .type) (found-none (litKind (x .type)) (sym (c .enum-told2 .given .1) ∙ c .before .before .scalar-kind .ensures (x .type) _ (x .whole)))))

@@ -21,8 +21,8 @@ check-vector-spec =
     -- returns-3
     (λ c j l e g.
     let x = given-one g (c .before .if3 .taken) in
-    rules-as (Tv (c .before .before .before .before .before .before .args .m) j) (c .check-vector-one .result) (of-one (Tv (c .before .before .before .before .before .before .args .m) j) (vector-typeable j e (c .before .before .before .before .is-abstract .ensures) _ (c .before .before .before .if1 .left)) (x .is) ∙ vector-one _ j (x .type)) (c .check-vector-one .ensures j (x .type) e (x .whole)))
+    rules-as (Tv _ j) (c .check-vector-one .result) (of-one (Tv _ j) (vector-typeable j e (c .before .before .before .before .is-abstract .ensures) _ (c .before .before .before .if1 .left)) (x .is) ∙ vector-one _ j (x .type)) (c .check-vector-one .ensures j (x .type) e (x .whole)))
     (λ c κs. search needs)
     -- returns-4
     (λ c j l e g.
-    rules-as (Tv (c .before .before .before .before .before .before .args .m) j) (c .check-vector-parts .result) (of-more (Tv (c .before .before .before .before .before .before .args .m) j) (vector-typeable j e (c .before .before .before .before .is-abstract .ensures) _ (c .before .before .before .if1 .left)) (given-more g (c .before .before .if2 .left) (c .before .if3 .left)) ∙ vector-more _ j l) (c .check-vector-parts .ensures j l e g)))
+    rules-as (Tv _ j) (c .check-vector-parts .result) (of-more (Tv _ j) (vector-typeable j e (c .before .before .before .before .is-abstract .ensures) _ (c .before .before .before .if1 .left)) (given-more g (c .before .before .if2 .left) (c .before .if3 .left)) ∙ vector-more _ j l) (c .check-vector-parts .ensures j l e g)))

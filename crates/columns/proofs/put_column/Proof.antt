@@ -19,4 +19,4 @@ put-column-spec =
     scan-room (column-scan (p .column)) (p .column .no) refl (omega (arith, p .room, column-long (p .column), c .before .before .before .put-three .ensures .end)))
     (λ c. search needs)
     -- returns
-    (λ c j qs x. column-put x (c .before .before .before .before .before .before .put-three .ensures) (scan-put (column-scan x) (x .no) refl (c .before .before .convert-items .ensures))))
+    (λ c j qs x. column-put x (search) (scan-put (column-scan x) (x .no) refl (c .before .before .convert-items .ensures))))

@@ -21,9 +21,9 @@ write-scalars-spec =
     -- put-columns-requires
     (λ c κs.
     let p = c .before .before .before .before .before .before .before .before .before .pre in
-    let h = hands-room _ _ (p .kind) (p .pays) (p .shaped) (sym (c .before .before .before .before .before .before .room-for .ensures (p .kind) (p .are .no)) ∙ not-false (c .before .before .before .before .before .before .room-for .result) (c .before .before .before .before .before .if1 .left)) in
+    let h = hands-room _ _ (p .kind) (p .pays) (p .shaped) (sym (c .before .before .before .before .before .before .room-for .ensures (p .kind) (p .are .no)) ∙ not-false _ (c .before .before .before .before .before .if1 .left)) in
     record { kind = p .kind; pays = p .pays; scalars = p .are; room = omega (arith, h, c .before .before .before .put-four .ensures .end, c .before .before .before .put-four .kept .0) })
     (λ c. search needs)
     -- returns-2
     (λ c j qs x g.
-    hands-record _ _ j qs g _ (sym (c .before .before .before .before .before .before .before .before .before .room-for .ensures j (x .no)) ∙ not-false (c .before .before .before .before .before .before .before .before .before .room-for .result) (c .before .before .before .before .before .before .before .before .if1 .left)) (c .before .before .before .before .before .before .put-four .ensures) (c .before .before .put-columns .ensures j qs x)))
+    hands-record _ _ j qs g _ (sym (c .before .before .before .before .before .before .before .before .before .room-for .ensures j (x .no)) ∙ not-false _ (search)) (search) (c .before .before .put-columns .ensures j qs x)))

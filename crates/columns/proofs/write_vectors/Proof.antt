@@ -22,9 +22,9 @@ write-vectors-spec =
     -- convert-items-requires
     (λ c κs.
     let p = c .before .before .before .before .before .before .before .before .before .pre in
-    let h = hands-room _ _ (p .kind) (p .pays) (p .shaped) (sym (c .before .before .before .before .before .before .room-for .ensures (p .kind) (p .are .no)) ∙ not-false (c .before .before .before .before .before .before .room-for .result) (c .before .before .before .before .before .if1 .left)) in
+    let h = hands-room _ _ (p .kind) (p .pays) (p .shaped) (sym (c .before .before .before .before .before .before .room-for .ensures (p .kind) (p .are .no)) ∙ not-false _ (c .before .before .before .before .before .if1 .left)) in
     scan-room (vectors-scan (p .are)) (p .are .no) refl (omega (arith, h, c .before .before .before .put-four .ensures .end, c .before .before .before .put-four .kept .0)))
     (λ c. search needs)
     -- returns-2
     (λ c j qs x g.
-    hands-record _ _ j qs g _ (sym (c .before .before .before .before .before .before .before .before .before .room-for .ensures j (x .no)) ∙ not-false (c .before .before .before .before .before .before .before .before .before .room-for .result) (c .before .before .before .before .before .before .before .before .if1 .left)) (c .before .before .before .before .before .before .put-four .ensures) (scan-put (vectors-scan x) (x .no) refl (c .before .before .convert-items .ensures))))
+    hands-record _ _ j qs g _ (sym (c .before .before .before .before .before .before .before .before .before .room-for .ensures j (x .no)) ∙ not-false _ (search)) (search) (scan-put (vectors-scan x) (x .no) refl (c .before .before .convert-items .ensures))))

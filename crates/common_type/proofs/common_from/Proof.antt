@@ -55,7 +55,7 @@ common-from-spec =
     let p = c .before .before .before .before .before .before .before .before .before .before .pre in
     let v = c .before .before .before .before .before .before .before .loop .inv in
     let g = v .2 _ _ (p .rest .row) (p .so-far .stands) in
-    let x = part-ends g (c .before .before .before .before .before .before .loop-test .taken) (c .before .before .before .before .next-part .ensures) .stands in
+    let x = part-ends g (search) (c .before .before .before .before .next-part .ensures) .stands in
     let w = cut-whole x (omega arith) in
     record { so-far = record { type = g .so .type; stands = g .so .stands }; another = record { type = _; stands = w }; room = omega (arith, w .size, x .size, x .within, v .0, v .1, p .room, c .before .before .before .before .next-part .kept .1 .1 .1 .0) })
     (λ c. search needs) (λ c. search needs)
@@ -65,7 +65,7 @@ common-from-spec =
     (λ c l t w v.
     let f = c .before .before .before .before .before .before .before .before .before .next-part .ensures in
     let m = c .before .before .before .before .meet in
-    args-first (c .before .before .before .before .before .before .before .before .before .before .before .before .loop .inv .2 l t w v) (c .before .before .before .before .before .before .before .before .before .before .before .loop-test .taken) λ a k x q.
+    args-first (c .before .before .before .before .before .before .before .before .before .before .before .before .loop .inv .2 l t w v) (search) λ a k x q.
     so-never q refl (cut-whole (f a k x .stands) (omega arith)) (m .result) (m .last .0) (m .ensures) (c .enum-told .given .1))
     -- loop-less
     (λ c.
@@ -81,7 +81,7 @@ common-from-spec =
       m .kept .0 ∙ i .0,
       c .before .before .before .before .before .before .before .before .before .before .next-part .kept .1 .1 .1 .0 ∙ i .1,
       λ l t w v.
-          args-on (i .2 l t w v) (c .before .before .before .before .before .before .before .before .before .before .before .before .loop-test .taken) (λ a k x. f a k x .next) λ a k x q.
+          args-on (i .2 l t w v) (search) (λ a k x. f a k x .next) λ a k x q.
           so-on q refl (cut-whole (f a k x .stands) (omega arith)) (m .result) (m .last .0) (m .ensures) (c .before .n .given .1),
     ))
     -- same-length-2

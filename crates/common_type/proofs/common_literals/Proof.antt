@@ -51,30 +51,30 @@ common-literals-spec =
     -- shared-slice-read-k
     (λ c. let p = c .before .before .before .before .before .before .before .pre in let g = c .before .before .before .before .loop .inv .1 _ _ (p .rest .row) (p .so-far) in omega (arith, args-three g (c .before .before .before .loop-test .taken)))
     -- slice-read-first
-    (λ c. omega (arith, c .before .before .before .before .before .loop .inv .0, c .before .before .before .before .before .before .before .before .pre .room))
+    (λ c. omega (arith, c .before .before .before .before .before .loop .inv .0))
     (λ c κs. search needs) (λ c. search needs)
     -- slice-write-ty
-    (λ c. omega (arith, c .before .before .before .before .before .before .before .before .before .loop .inv .0, c .before .before .before .before .before .before .before .before .before .before .before .before .pre .room))
+    (λ c. omega arith)
     (λ c. search needs)
     -- same-length-2
     (λ c. c .before .before .before .before .before .before .before .before .loop .inv .0)
     -- returns-2
     (λ c l t w v.
-    args-first (c .before .before .before .before .before .before .before .before .loop .inv .1 l t w v) (c .before .before .before .before .before .before .before .loop-test .taken) λ a k x q.
+    args-first (c .before .before .before .before .before .before .before .before .loop .inv .1 l t w v) (search) λ a k x q.
     kind-never (literal-by x (c .before .before .before .before .before .if1 .left)) q (c .before .before .meet-kinds .result) (c .before .before .meet-kinds .ensures) (c .enum-told .given .1))
     (λ c κs. search needs)
     -- add-at
     (λ c.
     let p = c .before .before .before .before .before .before .before .before .before .before .before .before .before .pre in
     let g = c .before .before .before .before .before .before .before .before .before .before .loop .inv .1 _ _ (p .rest .row) (p .so-far) in
-    let z = args-first g (c .before .before .before .before .before .before .before .before .before .loop-test .taken) λ a k x q. literal-end x (literal-by x (c .before .before .before .before .before .before .before .if1 .left)) (c .literal-len .ensures) .0 in
+    let z = args-first g (search) λ a k x q. literal-end x (literal-by x (search)) (c .literal-len .ensures) .0 in
     omega arith)
     -- loop-less
     (λ c.
     let p = c .before .before .before .before .before .before .before .before .before .before .before .before .before .pre in
     let g = c .before .before .before .before .before .before .before .before .before .before .loop .inv .1 _ _ (p .rest .row) (p .so-far) in
     let h = c .before .before .before .before .before .before .before .before .before .loop-test .taken in
-    let z = args-first g h λ a k x q. literal-end x (literal-by x (c .before .before .before .before .before .before .before .if1 .left)) (c .literal-len .ensures) .1 in
+    let z = args-first g h λ a k x q. literal-end x (literal-by x (search)) (c .literal-len .ensures) .1 in
     omega (arith, h))
     -- loop-again
     (λ c.
@@ -82,7 +82,7 @@ common-literals-spec =
       simp length-set (i .0),
       λ l t w v.
           let h = c .before .before .before .before .before .before .before .if1 .left in
-          args-on (i .1 l t w v) (c .before .before .before .before .before .before .before .before .before .loop-test .taken) (λ a k x. literal-end x (literal-by x h) (c .literal-len .ensures) .2) λ a k x q.
+          args-on (i .1 l t w v) (search) (λ a k x. literal-end x (literal-by x h) (c .literal-len .ensures) .2) λ a k x q.
           kind-on (literal-by x h) q (c .before .before .before .before .meet-kinds .result) (c .before .before .before .before .meet-kinds .ensures) (c .before .before .n .given .1),
     ))
     -- same-length-3

@@ -28,4 +28,4 @@ common-type-of-spec =
     record { rest = record { values = a .others; row = x .next .rest }; so-far = record { type = _; stands = x .stands }; room = c .before .before .before .first-type .kept .1 .1 .0 ∙ p .1 })
     (λ c. search needs)
     -- returns-2
-    (λ c l w. first-common l w (omega (arith, c .before .before .before .before .before .before .before .before .if1 .left)) (c .before .before .before .before .before .before .first-type .ensures) (c .before .before .common-rest .result) (c .before .before .common-rest .last .1 .1 .1 .0) (c .before .before .common-rest .ensures)))
+    (λ c l w. first-common l w (omega arith) (c .before .before .before .before .before .before .first-type .ensures) (c .before .before .common-rest .result) (c .before .before .common-rest .last .1 .1 .1 .0) (c .before .before .common-rest .ensures)))

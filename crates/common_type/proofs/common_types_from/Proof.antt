@@ -59,7 +59,7 @@ common-types-from-spec =
     -- returns
     (λ c l t w v.
     let m = c .before .before .before .before .meet in
-    types-next (c .before .before .before .before .before .before .before .before .before .loop .inv .1 l t w v) (c .before .before .before .before .before .before .before .before .loop-test .taken) (c .before .before .before .before .before .before .before .end-of-type .ensures) λ u k x q.
+    types-next (c .before .before .before .before .before .before .before .before .before .loop .inv .1 l t w v) (search) (search) λ u k x q.
     so-never q refl (cut-whole x (omega arith)) (m .result) (m .last .0) (m .ensures) (c .enum-told .given .1))
     -- loop-less
     (λ c.
@@ -72,7 +72,7 @@ common-types-from-spec =
     let m = c .before .before .before .before .before .meet in (
       m .kept .0 ∙ i .0,
       λ l t w v.
-          types-on (i .1 l t w v) (c .before .before .before .before .before .before .before .before .before .loop-test .taken) (c .before .before .before .before .before .before .before .before .end-of-type .ensures) λ u k x q.
+          types-on (i .1 l t w v) (search) (search) λ u k x q.
           so-on q refl (cut-whole x (omega arith)) (m .result) (m .last .0) (m .ensures) (c .before .n .given .1),
     ))
     -- same-length-2

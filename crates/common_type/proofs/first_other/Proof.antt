@@ -22,4 +22,4 @@ first-other-spec =
     -- returns
     (λ c v l w.
     let x = c .before .before .before .before .before .before .next-part .ensures v l w in
-    record { next = x .next; stands = cut-put (x .stands) (c .before .before .copy .ensures) (omega (arith, x .stands .size, x .stands .within, c .before .before .before .before .before .before .before .before .before .before .pre .1, c .before .before .before .before .before .before .next-part .kept .1 .1 .1 .0)) }))
+    record { next = x .next; stands = cut-put (x .stands) (c .before .before .copy .ensures) (omega (arith, x .stands .size, x .stands .within)) }))

@@ -21,11 +21,11 @@ first-type-spec =
     (λ c. omega (arith, three-bytes (c .before .before .before .before .before .pre .0 .row)))
     (λ c κs. search needs)
     -- slice-write-ty
-    (λ c. omega (arith, c .before .before .before .before .before .before .pre .1))
+    (λ c. omega arith)
     -- slice-write-ty-2
-    (λ c. simp length-set (omega (arith, c .before .before .before .before .before .before .pre .1)))
+    (λ c. simp length-set (omega arith))
     -- slice-write-ty-3
-    (λ c. simp length-set (omega (arith, c .before .before .before .before .before .before .pre .1)))
+    (λ c. simp length-set (omega arith))
     (λ c. search needs)
     -- returns-2
     (λ c v l w. literal-first (c .before .before .before .before .before .before .args .ty .now) w (literal-by w (c .before .before .if1 .left)) (c .literal-len .ensures) (omega (arith, c .before .before .before .before .before .before .pre .1))))

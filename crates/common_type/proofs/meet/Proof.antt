@@ -21,10 +21,10 @@ meet-spec =
     -- returns
     (λ c t u w v.
     let k = c .before .before .before .before .before .type-converts in
-    record { type = u; is = meet-next t u (sym (k .ensures t u (front-whole w) v) ∙ c .before .before .before .before .if1 .taken); stands = whole-put v (c .before .before .copy .ensures) (c .before .before .before .before .before .before .before .before .before .pre .room) })
+    record { type = u; is = meet-next t u (sym (k .ensures t u (front-whole w) v) ∙ c .before .before .before .before .if1 .taken); stands = whole-put v (c .before .before .copy .ensures) (search) })
     (λ c. search needs)
     -- slice-aggregate-type-converts-2
-    (λ c. sym (length-take-le _ _ (c .before .before .before .before .before .before .pre .so-far .stands .within)))
+    (λ c. sym (length-take-le _ _ (search)))
     -- type-converts-requires-2
     (λ c κs. let p = c .before .before .before .before .before .before .pre in (p .another, record { type = _; stands = front-whole (p .so-far .stands) }))
     (λ c. search needs)

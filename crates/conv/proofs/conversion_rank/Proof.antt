@@ -21,11 +21,11 @@ conversion-rank-spec =
     (λ c. search needs) (λ c κs. search needs) (λ c. search needs) (λ c. search needs) (λ c. search needs) (λ c. search needs)
     -- returns
     (λ c.
-    let m = meant (c .before .before .before .before .before .before .args .target .now) (λ i. c .before .before .before .before .before .shared-slice-known .given i .fits) (sym (c .before .enum-told .given .1) ∙ c .before .before .before .read-target .ensures) in
+    let m = meant _ (λ i. c .before .before .before .before .before .shared-slice-known .given i .fits) (sym (c .before .enum-told .given .1) ∙ c .before .before .before .read-target .ensures) in
     c .rank-to .ensures (m .type) (m .stands) ∙ sym (of-answer _ _ (m .reads)))
     -- returns-2
     (λ c.
-    let m = meant (c .before .before .before .before .before .before .args .target .now) (λ i. c .before .before .before .before .before .shared-slice-known .given i .fits) (sym (c .before .enum-told2 .given .1) ∙ c .before .before .before .read-target .ensures) in
+    let m = meant _ (λ i. c .before .before .before .before .before .shared-slice-known .given i .fits) (sym (c .before .enum-told2 .given .1) ∙ c .before .before .before .read-target .ensures) in
     c .rank-to-runtime .ensures (m .type) ∙ sym (tr-answer _ _ (m .reads)))
     -- returns-3
     (λ c. sym (no-answer _ _ (meant (c .before .before .before .before .before .args .target .now) (λ i. c .before .before .before .before .shared-slice-known .given i .fits) (sym (c .enum-told3 .given .1) ∙ c .before .before .read-target .ensures)) refl))

@@ -30,11 +30,11 @@ put-item-spec =
     -- put-literal-requires
     (λ c κs.
     let p = c .before .before .before .before .before .before .before .before .before .pre in
-    literal-room (p .stands) (c .before .before .before .before .before .if1 .left) (p .kind) (p .no) (c .before .before .before .before .literal-at .ensures) (p .goes) (c .before .before .before .before .before .before .before .before .before .args .to) (c .before .before .p .given .1) (p .room))
+    literal-room (p .stands) (c .before .before .before .before .before .if1 .left) (p .kind) (p .no) (c .before .before .before .before .literal-at .ensures) (p .goes) _ (c .before .before .p .given .1) (p .room))
     (λ c. search needs)
     -- same-length-2
     (λ c. c .before .before .put-literal .kept .0)
     -- returns-2
-    (λ c j a b n w g. literal-put w (c .before .before .before .before .before .before .before .before .if1 .left) j n (c .before .before .before .before .before .before .before .literal-at .ensures) g (c .before .before .before .before .before .p .given .1) (c .before .before .put-literal .ensures))
+    (λ c j a b n w g. literal-put w (search) j n (search) g (c .before .before .before .before .before .p .given .1) (c .before .before .put-literal .ensures))
     -- returns-3
     (λ c j a b n w g. absurd (literal-never w (c .before .before .before .if1 .left) j n (c .before .before .literal-at .ensures) g (c .enum-told .given .1))))

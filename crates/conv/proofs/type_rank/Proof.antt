@@ -22,7 +22,7 @@ type-rank-spec =
     (λ c. search needs) (λ c. search needs)
     -- returns-3
     (λ c t u w v.
-    rank-to-struct w v (c .before .before .before .before .before .before .before .before .same-bytes .ensures) (c .before .before .before .before .before .before .before .if1 .left) (sym (c .before .before .before .before .j .given .1) ∙ c .before .before .before .before .before .before .leaf-at .ensures t _ w)
+    rank-to-struct w v (c .before .before .before .before .before .before .before .before .same-bytes .ensures) (search) (sym (c .before .before .before .before .j .given .1) ∙ c .before .before .before .before .before .before .leaf-at .ensures t _ w)
     (sym (c .enum-told2 .given .1) ∙ c .before .before .leaf-at2 .ensures u _ v))
     -- same-shape-requires
     (λ c κs.
@@ -33,9 +33,9 @@ type-rank-spec =
     (λ c κs. search needs)
     -- returns-4
     (λ c t u w v.
-    c .kind-rank .ensures ∙ rank-shape w v (c .before .before .before .before .before .before .before .before .before .before .before .before .same-bytes .ensures) (c .before .before .before .before .before .before .before .before .before .before .before .if1 .left) (sym (c .before .before .before .before .before .before .before .before .j .given .1) ∙ c .before .before .before .before .before .before .before .before .before .before .leaf-at .ensures t _ w)
+    c .kind-rank .ensures ∙ rank-shape w v (c .before .before .before .before .before .before .before .before .before .before .before .before .same-bytes .ensures) (search) (sym (search) ∙ c .before .before .before .before .before .before .before .before .before .before .leaf-at .ensures t _ w)
     (sym (c .before .before .before .before .k .given .1) ∙ c .before .before .before .before .before .before .leaf-at2 .ensures u _ v) (c .before .before .same-shape .ensures) (c .before .if2 .taken))
     -- returns-5
     (λ c t u w v.
-    rank-no-shape w v (c .before .before .before .before .before .before .before .before .before .before .before .same-bytes .ensures) (c .before .before .before .before .before .before .before .before .before .before .if1 .left) (sym (c .before .before .before .before .before .before .before .j .given .1) ∙ c .before .before .before .before .before .before .before .before .before .leaf-at .ensures t _ w)
+    rank-no-shape w v (c .before .before .before .before .before .before .before .before .before .before .before .same-bytes .ensures) (search) (sym (c .before .before .before .before .before .before .before .j .given .1) ∙ c .before .before .before .before .before .before .before .before .before .leaf-at .ensures t _ w)
     (sym (c .before .before .before .k .given .1) ∙ c .before .before .before .before .before .leaf-at2 .ensures u _ v) (c .before .same-shape .ensures) (c .if2 .left)))

@@ -33,9 +33,9 @@ write-converted-spec =
     (λ c. c .before .before .convert-items .kept .1 .1 .1 .1 .0)
     -- returns
     (λ c t v w x g.
-    let y = kind-scan x (c .before .before .before .before .before .before .before .leaf-at .ensures) (c .before .before .before .before .before .k .given .1) in
+    let y = kind-scan x (search) (c .before .before .before .before .before .k .given .1) in
     scan-put (y .scan) (y .no) (ap (mapSome valBytes) g) (c .before .before .convert-items .ensures))
     -- same-length-2
     (λ c. c .before .before .copy .kept .1 .1 .1 .0)
     -- returns-2
-    (λ c t v w x g. struct-put x (c .before .before .before .before .before .before .leaf-at .ensures) (c .before .before .before .before .enum-told .given .1) g (c .before .before .copy .ensures)))
+    (λ c t v w x g. struct-put x (search) (c .before .before .before .before .enum-told .given .1) g (c .before .before .copy .ensures)))

@@ -16,6 +16,6 @@ all-fit-spec =
     (λ c κs. let p = c .before .before .before .before .before .before .pre in scan-items (row-scan (p .row) (p .stands) (p .converts) (c .before .before .before .leaf-at .ensures) (c .before .k .given .1) .scan))
     (λ c. search needs)
     -- returns
-    (λ c l t e w v. let y = row-scan w v (asked-all (c .before .before .before .before .before .before .before .pre) w v) (c .before .before .before .before .leaf-at .ensures) (c .before .before .k .given .1) in scan-fits (y .scan) (y .no) (c .fits2 .ensures) ∙ some-map (joined valBytes) _)
+    (λ c l t e w v. let y = row-scan w v (asked-all (search) w v) (c .before .before .before .before .leaf-at .ensures) (c .before .before .k .given .1) in scan-fits (y .scan) (y .no) (c .fits2 .ensures) ∙ some-map (joined valBytes) _)
     -- returns-2
     (λ c l t e w v. row-fits w v (asked-all (c .before .before .before .before .before .pre) w v) (c .before .before .leaf-at .ensures) (c .enum-told .given .1)))

@@ -52,7 +52,7 @@ literals-fit-spec =
     (λ c κs. search needs)
     -- add-i
     (λ c.
-    let z = args-first (c .before .before .before .before .before .before .before .loop .inv _ (c .before .before .before .before .before .before .before .before .before .pre .row)) (c .before .before .before .before .before .before .loop-test .taken) λ v m x q. literal-end x (literal-by x (c .before .before .before .before .if1 .left)) (c .literal-len .ensures) .0 in
+    let z = args-first (c .before .before .before .before .before .before .before .loop .inv _ (c .before .before .before .before .before .before .before .before .before .pre .row)) (search) λ v m x q. literal-end x (literal-by x (c .before .before .before .before .if1 .left)) (c .literal-len .ensures) .0 in
     omega arith)
     -- loop-less
     (λ c.
@@ -62,7 +62,7 @@ literals-fit-spec =
     -- loop-again
     (λ c l w.
     let h = c .before .before .before .before .if1 .left in
-    args-on (c .before .before .before .before .before .before .before .loop .inv l w) (c .before .before .before .before .before .before .loop-test .taken) (λ v m x. literal-end x (literal-by x h) (c .literal-len .ensures) .2) λ v m x q.
+    args-on (c .before .before .before .before .before .before .before .loop .inv l w) (search) (λ v m x. literal-end x (literal-by x h) (c .literal-len .ensures) .2) λ v m x q.
     test-on each-fit q (fits-as x (literal-by x h) (c .before .before .before .fits-at .ensures)) (not-false (c .before .before .before .fits-at .result) (c .before .before .if2 .left)))
     -- returns-3
     (λ c l j n w. test-end each-fit (args-end (c .before .loop .inv l w) (c .loop-test .left)) _ (j, n, refl)))

@@ -34,8 +34,8 @@ write-all-spec =
     (λ c. search needs)
     -- returns
     (λ c l t e ws w v g.
-    let y = row-scan w v (some-to t l g) (c .before .before .before .before .before .before .before .leaf-at .ensures) (c .before .before .before .before .before .k .given .1) in
+    let y = row-scan w v (some-to t l g) (search) (c .before .before .before .before .before .k .given .1) in
     scan-put (y .scan) (y .no) (ap (mapSome (joined valBytes)) g) (c .before .before .convert-items .ensures))
     (λ c. search needs)
     -- returns-2
-    (λ c l t e ws w v g. row-put w v (some-to t l g) (c .before .before .before .before .before .before .leaf-at .ensures) (c .before .before .before .before .enum-told .given .1) g (c .before .before .copy .ensures)))
+    (λ c l t e ws w v g. row-put w v (some-to t l g) (search) (c .before .before .before .before .enum-told .given .1) g (c .before .before .copy .ensures)))

@@ -35,6 +35,6 @@ convert-value-spec =
     (λ c. search needs)
     -- returns-3
     (λ c t v x.
-    let h = subst T (sym (not-false (c .before .before .before .before .before .before .before .type-converts .result) (c .before .before .before .before .before .before .if1 .left)) ∙ c .before .before .before .before .before .before .before .type-converts .ensures _ t (x .type) (x .whole)) tt in
+    let h = subst T (sym (not-false _ (search)) ∙ c .before .before .before .before .before .before .before .type-converts .ensures _ t (x .type) (x .whole)) tt in
     let g = value-goes x h (sym (not-false (c .before .before .before .before .before .value-fits .result) (c .before .before .before .before .if2 .left)) ∙ c .before .before .before .before .before .value-fits .ensures t v (asked-to x h)) in
     told-as (value-yes x g _) (c .before .before .write-value .ensures t v (g .into) (g .becomes))))

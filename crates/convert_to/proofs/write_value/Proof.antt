@@ -38,4 +38,4 @@ write-value-spec =
     (λ c t v w x.
     let o = c .before .before .before .before .before .before .args .out .now in
     let n = long-len _ _ (sym (c .enum-told .given .1) ∙ c .before .before .value-len .ensures t _ (x .whole)) in
-    refused 22 o (hand-no x (length o) (omega (arith, n, c .before .before .before .before .before .before .good .1 .1 .0 .0)))))
+    refused 22 o (hand-no x (length o) (omega (arith, n)))))

@@ -13,14 +13,10 @@ split-spec =
     (tie.spec
     -- returns
     (λ c. split-short (c .before .before .args .input .now) (omega (arith, c .if1 .taken)))
-    (λ c. search needs) (λ c κs. search needs) (λ c. search needs) (λ c κs. search needs) (λ c. search needs) (λ c. search needs) (λ c. search needs)
+    (λ c. search needs) (λ c. search needs) (λ c κs. search needs) (λ c κs. search needs) (λ c. search needs)
     -- returns-2
-    (λ c. split-short (c .before .before .before .before .before .before .before .args .input .now) (omega (arith, c .if2 .taken, c .before .wide2 .ensures .0, c .before .before .before .wide .ensures .0)))
+    (λ c. split-short _ (omega arith))
     -- returns-3
-    (λ c. split-long (c .before .before .before .before .before .before .before .before .args .input .now) (c .if3 .taken))
+    (λ c. split-long _ (c .if3 .taken))
     -- returns-4
-    (λ c.
-    let a = c .before .before .wide2 .ensures .0 in
-    let b = c .before .before .before .before .wide .ensures .0 in
-    ap Call (omega (arith, a, b))
-    ∙ split-call (c .before .before .before .before .before .before .before .before .args .input .now) (omega (arith, c .before .if2 .left, a, b)) (c .if3 .left)))
+    (λ c. ap Call (omega arith) ∙ split-call _ (omega arith) (c .if3 .left)))

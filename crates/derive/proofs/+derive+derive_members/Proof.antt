@@ -62,20 +62,20 @@ pub +derive+derive-members-spec : {M : Type 1} → statement M
     (derive-at t) derive.Post
     (λ c κs. search needs) (λ c κs. search needs) (λ c. search needs) (λ c. search needs)
     -- value-as-requires
-    (λ c κs. let a = c .before .before .before .before .before .before .before .before .before .before .before .before .before .args in leaf-stands (a .depth) (a .s .now) (a .at) (a .ty .now) (a .o) _ (c .before .before .before .before .before .before .before .before .put-type-front .last .0) (scalar-leaf (a .depth) (a .s .now) (a .at) (a .ty .now) (a .o) _ (c .before .before .before .before .before .before .before .before .put-type-front .last .0) (c .before .before .before .before .before .before .before .before .before .before .value-front .result) (c .before .before .before .before .before .before .before .before .before .before .value-front .ensures) (c .before .before .before .before .before .before .before .before .put-type-front .result) (c .before .before .before .before .before .before .before .before .put-type-front .ensures) (c .before .before .before .before .p .given .1) _ (c .before .enum-told .given .1)))
+    (λ c κs. let a = c .before .before .before .before .before .before .before .before .before .before .before .before .before .args in leaf-stands (a .depth) (a .s .now) (a .at) (a .ty .now) (a .o) _ _ (scalar-leaf (a .depth) (a .s .now) (a .at) (a .ty .now) (a .o) _ _ _ (search) _ (search) (c .before .before .before .before .p .given .1) _ (c .before .enum-told .given .1)))
     (λ c. search needs)
     -- value-as-requires-2
-    (λ c κs. let a = c .before .before .before .before .before .before .before .before .before .before .before .before .before .args in leaf-stands (a .depth) (a .s .now) (a .at) (a .ty .now) (a .o) _ (c .before .before .before .before .before .before .before .before .put-type-front .last .0) (vector-leaf (a .depth) (a .s .now) (a .at) (a .ty .now) (a .o) _ (c .before .before .before .before .before .before .before .before .put-type-front .last .0) (c .before .before .before .before .before .before .before .before .before .before .value-front .result) (c .before .before .before .before .before .before .before .before .before .before .value-front .ensures) (c .before .before .before .before .before .before .before .before .put-type-front .result) (c .before .before .before .before .before .before .before .before .put-type-front .ensures) (c .before .before .before .before .p .given .1) _ _ (c .before .enum-told2 .given .1)))
+    (λ c κs. let a = c .before .before .before .before .before .before .before .before .before .before .before .before .before .args in leaf-stands (a .depth) (a .s .now) (a .at) (a .ty .now) (a .o) _ _ (vector-leaf (a .depth) (a .s .now) (a .at) (a .ty .now) (a .o) _ _ _ (search) _ (search) (c .before .before .before .before .p .given .1) _ _ (c .before .enum-told2 .given .1)))
     (λ c. search needs)
     -- value-as-requires-3
-    (λ c κs. let a = c .before .before .before .before .before .before .before .before .before .before .before .before .before .args in leaf-stands (a .depth) (a .s .now) (a .at) (a .ty .now) (a .o) _ (c .before .before .before .before .before .before .before .before .put-type-front .last .0) (matrix-leaf (a .depth) (a .s .now) (a .at) (a .ty .now) (a .o) _ (c .before .before .before .before .before .before .before .before .put-type-front .last .0) (c .before .before .before .before .before .before .before .before .before .before .value-front .result) (c .before .before .before .before .before .before .before .before .before .before .value-front .ensures) (c .before .before .before .before .before .before .before .before .put-type-front .result) (c .before .before .before .before .before .before .before .before .put-type-front .ensures) (c .before .before .before .before .p .given .1) _ _ _ (c .before .enum-told3 .given .1)))
+    (λ c κs. let a = c .before .before .before .before .before .before .before .before .before .before .before .before .before .args in leaf-stands (a .depth) (a .s .now) (a .at) (a .ty .now) (a .o) _ _ (matrix-leaf (a .depth) (a .s .now) (a .at) (a .ty .now) (a .o) _ _ _ (search) _ (search) (c .before .before .before .before .p .given .1) _ _ _ (c .before .enum-told3 .given .1)))
     (λ c. search needs)
     -- add-derive
-    (λ c. let a = c .before .before .before .before .before .before .before .before .before .before .before .before .before .args in let x = front-is (a .depth) (a .s .now) (a .at) (a .ty .now) (a .o) _ (c .before .before .before .before .before .before .before .before .put-type-front .last .0) (c .before .before .before .before .before .before .before .before .before .before .value-front .result) (c .before .before .before .before .before .before .before .before .before .before .value-front .ensures) (c .before .before .before .before .before .before .before .before .put-type-front .result) (c .before .before .before .before .before .before .before .before .put-type-front .ensures) (c .before .before .before .before .p .given .1) _ (c .before .f .given .1) in record { fits = omega (arith, x .starts .room) })
+    (λ c. let a = c .before .before .before .before .before .before .before .before .before .before .before .before .before .args in let x = front-is (a .depth) (a .s .now) (a .at) (a .ty .now) (a .o) _ _ _ (search) _ (c .before .before .before .before .before .before .before .before .put-type-front .ensures) (c .before .before .before .before .p .given .1) _ (c .before .f .given .1) in record { fits = omega (arith, x .starts .room) })
     -- sub-derive
-    (λ c. let a = c .before .before .before .before .before .before .before .before .before .before .before .before .before .before .args in let x = front-is (a .depth) (a .s .now) (a .at) (a .ty .now) (a .o) _ (c .before .before .before .before .before .before .before .before .before .put-type-front .last .0) (c .before .before .before .before .before .before .before .before .before .before .before .value-front .result) (c .before .before .before .before .before .before .before .before .before .before .before .value-front .ensures) (c .before .before .before .before .before .before .before .before .before .put-type-front .result) (c .before .before .before .before .before .before .before .before .before .put-type-front .ensures) (c .before .before .before .before .before .p .given .1) _ (c .before .before .f .given .1) in omega (arith, x .deep))
+    (λ c. let a = c .before .before .before .before .before .before .before .before .before .before .before .before .before .before .args in let x = front-is (a .depth) (a .s .now) (a .at) (a .ty .now) (a .o) _ _ _ (search) _ (c .before .before .before .before .before .before .before .before .before .put-type-front .ensures) (c .before .before .before .before .before .p .given .1) _ (c .before .before .f .given .1) in omega (arith, x .deep))
     -- derive-requires
-    (λ c κs. let a = c .before .before .before .before .before .before .before .before .before .before .before .before .before .before .args in let x = front-is (a .depth) (a .s .now) (a .at) (a .ty .now) (a .o) _ (c .before .before .before .before .before .before .before .before .before .put-type-front .last .0) (c .before .before .before .before .before .before .before .before .before .before .before .value-front .result) (c .before .before .before .before .before .before .before .before .before .before .before .value-front .ensures) (c .before .before .before .before .before .before .before .before .before .put-type-front .result) (c .before .before .before .before .before .before .before .before .before .put-type-front .ensures) (c .before .before .before .before .before .p .given .1) _ (c .before .before .f .given .1) in (omega (arith, c .before .before .before .before .before .before .before .before .before .before .before .before .before .before .pre .0, x .deep), tt))
+    (λ c κs. let a = c .before .before .before .before .before .before .before .before .before .before .before .before .before .before .args in let x = front-is (a .depth) (a .s .now) (a .at) (a .ty .now) (a .o) _ _ _ (search) _ (c .before .before .before .before .before .before .before .before .before .put-type-front .ensures) (c .before .before .before .before .before .p .given .1) _ (c .before .before .f .given .1) in (omega (arith, x .deep), tt))
     (λ c. search needs)
     -- sub-elements-as
     (λ c. let a = c .before .before .before .before .before .before .before .before .before .before .before .before .before .before .before .before .before .before .before .before .args in (front-is (a .depth) (a .s .now) (a .at) (a .ty .now) (a .o) _ (c .before .before .before .before .before .before .before .before .before .before .before .before .before .before .before .put-type-front .last .0) (c .before .before .before .before .before .before .before .before .before .before .before .before .before .before .before .before .before .value-front .result) (c .before .before .before .before .before .before .before .before .before .before .before .before .before .before .before .before .before .value-front .ensures) (c .before .before .before .before .before .before .before .before .before .before .before .before .before .before .before .put-type-front .result) (c .before .before .before .before .before .before .before .before .before .before .before .before .before .before .before .put-type-front .ensures) (c .before .before .before .before .before .before .before .before .before .before .before .p .given .1) _ (c .before .before .before .before .before .before .before .before .f .given .1)) .some)
@@ -85,24 +85,24 @@ pub +derive+derive-members-spec : {M : Type 1} → statement M
     (λ c κs. let a = c .before .before .before .before .before .before .before .before .before .before .before .before .before .before .before .before .before .before .before .before .before .args in let x = (subst (λ (r : Derived). Derives (a .depth - 1) (a .s .now) (a .at + 4) (c .before .before .before .before .before .before .before .before .before .before .before .before .before .before .before .before .put-type-front .last .0) (c .before .before .before .before .before .before .before .before .before .before .before .before .p .given .0 .0) r (c .before .before .before .before .before .before .derive .last .1 .1 .0)) (c .before .before .e .given .1) (c .before .before .before .before .before .before .derive .ensures)) in (record { type = x .type; end = _; stands = first-stands (a .depth) (a .s .now) (a .at) _ (front-is (a .depth) (a .s .now) (a .at) (a .ty .now) (a .o) _ (c .before .before .before .before .before .before .before .before .before .before .before .before .before .before .before .before .put-type-front .last .0) (c .before .before .before .before .before .before .before .before .before .before .before .before .before .before .before .before .before .before .value-front .result) (c .before .before .before .before .before .before .before .before .before .before .before .before .before .before .before .before .before .before .value-front .ensures) (c .before .before .before .before .before .before .before .before .before .before .before .before .before .before .before .before .put-type-front .result) (c .before .before .before .before .before .before .before .before .before .before .before .before .before .before .before .before .put-type-front .ensures) (c .before .before .before .before .before .before .before .before .before .before .before .before .p .given .1) _ (c .before .before .before .before .before .before .before .before .before .f .given .1)) (a .ty .now) (a .o) _ (c .before .before .before .before .before .before .before .before .before .before .before .before .before .before .before .before .put-type-front .last .0) (front-wrote (a .depth) (a .s .now) (a .at) (a .ty .now) (a .o) _ (c .before .before .before .before .before .before .before .before .before .before .before .before .before .before .before .before .put-type-front .last .0) (c .before .before .before .before .before .before .before .before .before .before .before .before .before .before .before .before .before .before .value-front .result) (c .before .before .before .before .before .before .before .before .before .before .before .before .before .before .before .before .before .before .value-front .ensures) (c .before .before .before .before .before .before .before .before .before .before .before .before .before .before .before .before .put-type-front .result) (c .before .before .before .before .before .before .before .before .before .before .before .before .before .before .before .before .put-type-front .ensures) (c .before .before .before .before .before .before .before .before .before .before .before .before .p .given .1) _ (c .before .before .before .before .before .before .before .before .before .f .given .1)) (c .before .before .before .before .before .before .derive .last .1 .1 .0) _ _ x }, x .typed .fits .within))
     (λ c. search needs) (λ c. search needs) (λ c. search needs) (λ c. search needs)
     -- add-derive-members
-    (λ c. let a = c .before .before .before .before .before .before .before .before .before .before .before .before .before .args in let x = front-is (a .depth) (a .s .now) (a .at) (a .ty .now) (a .o) _ (c .before .before .before .before .before .before .before .before .put-type-front .last .0) (c .before .before .before .before .before .before .before .before .before .before .value-front .result) (c .before .before .before .before .before .before .before .before .before .before .value-front .ensures) (c .before .before .before .before .before .before .before .before .put-type-front .result) (c .before .before .before .before .before .before .before .before .put-type-front .ensures) (c .before .before .before .before .p .given .1) _ (c .before .f2 .given .1) in record { fits = omega (arith, x .starts .room) })
+    (λ c. let a = c .before .before .before .before .before .before .before .before .before .before .before .before .before .args in let x = front-is (a .depth) (a .s .now) (a .at) (a .ty .now) (a .o) _ _ _ (search) _ (c .before .before .before .before .before .before .before .before .put-type-front .ensures) (c .before .before .before .before .p .given .1) _ (c .before .f2 .given .1) in record { fits = omega (arith, x .starts .room) })
     -- sub-derive-members
-    (λ c. let a = c .before .before .before .before .before .before .before .before .before .before .before .before .before .before .args in (front-is (a .depth) (a .s .now) (a .at) (a .ty .now) (a .o) _ (c .before .before .before .before .before .before .before .before .before .put-type-front .last .0) (c .before .before .before .before .before .before .before .before .before .before .before .value-front .result) (c .before .before .before .before .before .before .before .before .before .before .before .value-front .ensures) (c .before .before .before .before .before .before .before .before .before .put-type-front .result) (c .before .before .before .before .before .before .before .before .before .put-type-front .ensures) (c .before .before .before .before .before .p .given .1) _ (c .before .before .f2 .given .1)) .deep)
+    (λ c. let a = c .before .before .before .before .before .before .before .before .before .before .before .before .before .before .args in (front-is (a .depth) (a .s .now) (a .at) (a .ty .now) (a .o) _ _ _ (search) _ (c .before .before .before .before .before .before .before .before .before .put-type-front .ensures) (c .before .before .before .before .before .p .given .1) _ (c .before .before .f2 .given .1)) .deep)
     -- derive-members-requires
-    (λ c κs. let a = c .before .before .before .before .before .before .before .before .before .before .before .before .before .before .args in let x = front-is (a .depth) (a .s .now) (a .at) (a .ty .now) (a .o) _ (c .before .before .before .before .before .before .before .before .before .put-type-front .last .0) (c .before .before .before .before .before .before .before .before .before .before .before .value-front .result) (c .before .before .before .before .before .before .before .before .before .before .before .value-front .ensures) (c .before .before .before .before .before .before .before .before .before .put-type-front .result) (c .before .before .before .before .before .before .before .before .before .put-type-front .ensures) (c .before .before .before .before .before .p .given .1) _ (c .before .before .f2 .given .1) in let w = front-wrote (a .depth) (a .s .now) (a .at) (a .ty .now) (a .o) _ (c .before .before .before .before .before .before .before .before .before .put-type-front .last .0) (c .before .before .before .before .before .before .before .before .before .before .before .value-front .result) (c .before .before .before .before .before .before .before .before .before .before .before .value-front .ensures) (c .before .before .before .before .before .before .before .before .before .put-type-front .result) (c .before .before .before .before .before .before .before .before .before .put-type-front .ensures) (c .before .before .before .before .before .p .given .1) _ (c .before .before .f2 .given .1) in (omega (arith, c .before .before .before .before .before .before .before .before .before .before .before .before .before .before .pre .0, x .deep), (x .starts .room, omega (arith, w .room, c .before .before .before .before .before .before .before .before .before .put-type-front .kept .0))))
+    (λ c κs. let a = c .before .before .before .before .before .before .before .before .before .before .before .before .before .before .args in let x = front-is (a .depth) (a .s .now) (a .at) (a .ty .now) (a .o) _ _ _ (search) _ (c .before .before .before .before .before .before .before .before .before .put-type-front .ensures) (c .before .before .before .before .before .p .given .1) _ (c .before .before .f2 .given .1) in let w = front-wrote (a .depth) (a .s .now) (a .at) (a .ty .now) (a .o) _ _ _ (search) _ (c .before .before .before .before .before .before .before .before .before .put-type-front .ensures) (c .before .before .before .before .before .p .given .1) _ (c .before .before .f2 .given .1) in (omega (arith, x .deep), (x .starts .room, omega (arith, w .room))))
     (λ c. search needs) (λ c. search needs)
     -- same-length
     (λ c. c .before .before .before .before .before .before .before .before .before .put-type-front .kept .0)
     -- returns
-    (λ c. let a = c .before .before .before .before .before .before .before .before .before .before .before .before .before .before .args in leaf-derives (a .depth) (a .s .now) (a .at) (a .ty .now) (a .o) _ (c .before .before .before .before .before .before .before .before .before .put-type-front .last .0) (scalar-leaf (a .depth) (a .s .now) (a .at) (a .ty .now) (a .o) _ (c .before .before .before .before .before .before .before .before .before .put-type-front .last .0) (c .before .before .before .before .before .before .before .before .before .before .before .value-front .result) (c .before .before .before .before .before .before .before .before .before .before .before .value-front .ensures) (c .before .before .before .before .before .before .before .before .before .put-type-front .result) (c .before .before .before .before .before .before .before .before .before .put-type-front .ensures) (c .before .before .before .before .before .p .given .1) _ (c .before .before .enum-told .given .1)) (c .value-as .result) (c .value-as .ensures))
+    (λ c. let a = c .before .before .before .before .before .before .before .before .before .before .before .before .before .before .args in leaf-derives (a .depth) (a .s .now) (a .at) (a .ty .now) (a .o) _ _ (scalar-leaf (a .depth) (a .s .now) (a .at) (a .ty .now) (a .o) _ _ _ (search) _ (search) (c .before .before .before .before .before .p .given .1) _ (c .before .before .enum-told .given .1)) (c .value-as .result) (c .value-as .ensures))
     -- same-length-2
     (λ c. c .before .before .before .before .before .before .before .before .before .put-type-front .kept .0)
     -- returns-2
-    (λ c. let a = c .before .before .before .before .before .before .before .before .before .before .before .before .before .before .args in leaf-derives (a .depth) (a .s .now) (a .at) (a .ty .now) (a .o) _ (c .before .before .before .before .before .before .before .before .before .put-type-front .last .0) (vector-leaf (a .depth) (a .s .now) (a .at) (a .ty .now) (a .o) _ (c .before .before .before .before .before .before .before .before .before .put-type-front .last .0) (c .before .before .before .before .before .before .before .before .before .before .before .value-front .result) (c .before .before .before .before .before .before .before .before .before .before .before .value-front .ensures) (c .before .before .before .before .before .before .before .before .before .put-type-front .result) (c .before .before .before .before .before .before .before .before .before .put-type-front .ensures) (c .before .before .before .before .before .p .given .1) _ _ (c .before .before .enum-told2 .given .1)) (c .value-as2 .result) (c .value-as2 .ensures))
+    (λ c. let a = c .before .before .before .before .before .before .before .before .before .before .before .before .before .before .args in leaf-derives (a .depth) (a .s .now) (a .at) (a .ty .now) (a .o) _ _ (vector-leaf (a .depth) (a .s .now) (a .at) (a .ty .now) (a .o) _ _ _ (search) _ (search) (c .before .before .before .before .before .p .given .1) _ _ (c .before .before .enum-told2 .given .1)) (c .value-as2 .result) (c .value-as2 .ensures))
     -- same-length-3
     (λ c. c .before .before .before .before .before .before .before .before .before .put-type-front .kept .0)
     -- returns-3
-    (λ c. let a = c .before .before .before .before .before .before .before .before .before .before .before .before .before .before .args in leaf-derives (a .depth) (a .s .now) (a .at) (a .ty .now) (a .o) _ (c .before .before .before .before .before .before .before .before .before .put-type-front .last .0) (matrix-leaf (a .depth) (a .s .now) (a .at) (a .ty .now) (a .o) _ (c .before .before .before .before .before .before .before .before .before .put-type-front .last .0) (c .before .before .before .before .before .before .before .before .before .before .before .value-front .result) (c .before .before .before .before .before .before .before .before .before .before .before .value-front .ensures) (c .before .before .before .before .before .before .before .before .before .put-type-front .result) (c .before .before .before .before .before .before .before .before .before .put-type-front .ensures) (c .before .before .before .before .before .p .given .1) _ _ _ (c .before .before .enum-told3 .given .1)) (c .value-as3 .result) (c .value-as3 .ensures))
+    (λ c. let a = c .before .before .before .before .before .before .before .before .before .before .before .before .before .before .args in leaf-derives (a .depth) (a .s .now) (a .at) (a .ty .now) (a .o) _ _ (matrix-leaf (a .depth) (a .s .now) (a .at) (a .ty .now) (a .o) _ _ _ (search) _ (search) (c .before .before .before .before .before .p .given .1) _ _ _ (c .before .before .enum-told3 .given .1)) (c .value-as3 .result) (c .value-as3 .ensures))
     -- same-length-4
     (λ c. c .before .before .before .before .before .before .before .before .before .before .derive .kept .1 .1 .0 ∙ c .before .before .before .before .before .before .before .before .before .before .before .before .before .before .before .before .before .before .before .before .put-type-front .kept .0)
     -- returns-4
@@ -118,15 +118,15 @@ pub +derive+derive-members-spec : {M : Type 1} → statement M
     -- same-length-7
     (λ c. c .before .before .derive-members .kept .1 .1 .1 .0 ∙ c .before .before .before .before .before .before .before .before .before .before .before .before .put-type-front .kept .0)
     -- returns-7
-    (λ c. let a = c .before .before .before .before .before .before .before .before .before .before .before .before .before .before .before .before .before .args in struct-derives (a .depth) (a .s .now) (a .at) _ _ (front-is (a .depth) (a .s .now) (a .at) (a .ty .now) (a .o) _ (c .before .before .before .before .before .before .before .before .before .before .before .before .put-type-front .last .0) (c .before .before .before .before .before .before .before .before .before .before .before .before .before .before .value-front .result) (c .before .before .before .before .before .before .before .before .before .before .before .before .before .before .value-front .ensures) (c .before .before .before .before .before .before .before .before .before .before .before .before .put-type-front .result) (c .before .before .before .before .before .before .before .before .before .before .before .before .put-type-front .ensures) (c .before .before .before .before .before .before .before .before .p .given .1) _ (c .before .before .before .before .before .f2 .given .1)) (a .ty .now) (a .o) _ (c .before .before .before .before .before .before .before .before .before .before .before .before .put-type-front .last .0) _ (front-wrote (a .depth) (a .s .now) (a .at) (a .ty .now) (a .o) _ (c .before .before .before .before .before .before .before .before .before .before .before .before .put-type-front .last .0) (c .before .before .before .before .before .before .before .before .before .before .before .before .before .before .value-front .result) (c .before .before .before .before .before .before .before .before .before .before .before .before .before .before .value-front .ensures) (c .before .before .before .before .before .before .before .before .before .before .before .before .put-type-front .result) (c .before .before .before .before .before .before .before .before .before .before .before .before .put-type-front .ensures) (c .before .before .before .before .before .before .before .before .p .given .1) _ (c .before .before .before .before .before .f2 .given .1)) (c .before .before .derive-members .result) (c .before .before .derive-members .ensures))
+    (λ c. let a = c .before .before .before .before .before .before .before .before .before .before .before .before .before .before .before .before .before .args in struct-derives (a .depth) (a .s .now) (a .at) _ _ (front-is (a .depth) (a .s .now) (a .at) (a .ty .now) (a .o) _ _ _ (search) _ (c .before .before .before .before .before .before .before .before .before .before .before .before .put-type-front .ensures) (c .before .before .before .before .before .before .before .before .p .given .1) _ (c .before .before .before .before .before .f2 .given .1)) (a .ty .now) (a .o) _ _ _ (front-wrote (a .depth) (a .s .now) (a .at) (a .ty .now) (a .o) _ _ _ (search) _ (c .before .before .before .before .before .before .before .before .before .before .before .before .put-type-front .ensures) (c .before .before .before .before .before .before .before .before .p .given .1) _ (c .before .before .before .before .before .f2 .given .1)) (c .before .before .derive-members .result) (c .before .before .derive-members .ensures))
     -- same-length-8
     (λ c. c .before .before .before .before .before .before .before .put-type-front .kept .0)
     -- returns-8
-    (λ c u e v. let a = c .before .before .before .before .before .before .before .before .before .before .before .before .args in absurd (front-is (a .depth) (a .s .now) (a .at) (a .ty .now) (a .o) _ (c .before .before .before .before .before .before .before .put-type-front .last .0) (c .before .before .before .before .before .before .before .before .before .value-front .result) (c .before .before .before .before .before .before .before .before .before .value-front .ensures) (c .before .before .before .before .before .before .before .put-type-front .result) (c .before .before .before .before .before .before .before .put-type-front .ensures) (c .before .before .before .p .given .1) _ (c .enum-told6 .given .1) u e v))
+    (λ c u e v. let a = c .before .before .before .before .before .before .before .before .before .before .before .before .args in absurd (front-is (a .depth) (a .s .now) (a .at) (a .ty .now) (a .o) _ _ _ (search) _ (c .before .before .before .before .before .before .before .put-type-front .ensures) (c .before .before .before .p .given .1) _ (c .enum-told6 .given .1) u e v))
     -- same-length-9
     (λ c. c .before .before .before .before .put-type-front .kept .0)
     -- returns-9
-    (λ c. let a = c .before .before .before .before .before .before .before .before .before .args in front-full (a .depth) (a .s .now) (a .at) (c .before .before .before .before .before .before .value-front .result) (c .before .before .before .before .before .before .value-front .ensures) (a .ty .now) (a .o) (subst (λ (r : ValueEnd). Tried (a .ty .now) (a .o) (typeFront (c .before .before .before .before .before .before .value-front .result)) r (c .before .before .before .before .put-type-front .last .0)) (c .enum-told7 .given .1) (c .before .before .before .before .put-type-front .ensures))))
+    (λ c. let a = c .before .before .before .before .before .before .before .before .before .args in front-full (a .depth) (a .s .now) (a .at) (c .before .before .before .before .before .before .value-front .result) (search) (a .ty .now) (a .o) (subst (λ (r : ValueEnd). Tried (a .ty .now) (a .o) (typeFront (c .before .before .before .before .before .before .value-front .result)) r (c .before .before .before .before .put-type-front .last .0)) (c .enum-told7 .given .1) (c .before .before .before .before .put-type-front .ensures))))
     (λ t.
     derive-members-lts.spec (derive-below t, derive.Post) (derive-members-at t) derive-members.Post Inv μ
     -- loop-holds
@@ -137,7 +137,7 @@ pub +derive+derive-members-spec : {M : Type 1} → statement M
     -- same-length
     (λ c. c .before .before .before .before .derive .kept .1 .1 .0 ∙ c .before .before .before .before .before .before .before .loop .inv .2)
     -- returns
-    (λ c. let a = c .before .before .before .before .before .before .before .before .before .before .args in let l = c .before .before .before .before .before .before .before .loop in l .inv .3 Unfit (c .before .before .before .before .derive .last .1 .1 .0) (members-stop (a .depth) (a .s .now) (l .i) (l .ty) (l .p) (l .left) (c .before .before .before .before .before .before .loop-test .taken) (c .before .before .before .before .derive .last .1 .1 .0) (subst (λ (r : Derived). Derives (a .depth) (a .s .now) (l .i) (l .ty) (l .p) r (c .before .before .before .before .derive .last .1 .1 .0)) (c .enum-told .given .1) (c .before .before .before .before .derive .ensures))))
+    (λ c. let a = c .before .before .before .before .before .before .before .before .before .before .args in let l = c .before .before .before .before .before .before .before .loop in l .inv .3 Unfit (c .before .before .before .before .derive .last .1 .1 .0) (members-stop (a .depth) (a .s .now) (l .i) (l .ty) (l .p) (l .left) (search) (c .before .before .before .before .derive .last .1 .1 .0) (subst (λ (r : Derived). Derives (a .depth) (a .s .now) (l .i) (l .ty) (l .p) r (c .before .before .before .before .derive .last .1 .1 .0)) (c .enum-told .given .1) (c .before .before .before .before .derive .ensures))))
     (λ c. omega arith) (λ c. omega arith)
     -- loop-again
     (λ c.
@@ -148,7 +148,7 @@ pub +derive+derive-members-spec : {M : Type 1} → statement M
       f .typed .fits .within,
       omega (arith, f .wrote .room, k),
       k ∙ l .inv .2,
-      λ r x y. l .inv .3 r x (members-on (a .depth) (a .s .now) (l .i) (l .ty) (l .p) (l .left) (c .before .before .before .before .before .before .before .loop-test .taken) _ _ _ f r x y),
+      λ r x y. l .inv .3 r x (members-on (a .depth) (a .s .now) (l .i) (l .ty) (l .p) (l .left) (search) _ _ _ f r x y),
     ))
     -- same-length-2
     (λ c. c .before .loop .inv .2)

@@ -30,9 +30,9 @@ name-vector-parts-spec =
     (λ c. search needs) (λ c. search needs)
     -- returns-3
     (λ c l g.
-    let x = kinds-of (g .row) (given-two g (c .before .before .before .before .before .before .before .before .before .pre .1)) (c .before .before .before .before .before .before .before .are-parts .ensures l (g .row)) (not-false (c .before .before .before .before .before .before .before .are-parts .result) (c .before .before .before .before .before .before .if1 .left)) in
+    let x = kinds-of (g .row) (given-two g (search)) (c .before .before .before .before .before .before .before .are-parts .ensures l (g .row)) (not-false (c .before .before .before .before .before .before .before .are-parts .result) (c .before .before .before .before .before .before .if1 .left)) in
     qv-found (c .before .before .before .before .before .before .before .before .before .args .n) l (x .kinds) (sym (c .before .before .before .before .before .total .ensures l (g .row)) ∙ c .before .before .before .before .if2 .left) (c .before .before .before .common-kind .ensures l _ _ (x .kinds)) (c .before .k .given .1))
     -- returns-4
     (λ c l g.
-    let x = kinds-of (g .row) (given-two g (c .before .before .before .before .before .before .before .before .pre .1)) (c .before .before .before .before .before .before .are-parts .ensures l (g .row)) (not-false (c .before .before .before .before .before .before .are-parts .result) (c .before .before .before .before .before .if1 .left)) in
+    let x = kinds-of (g .row) (given-two g (search)) (c .before .before .before .before .before .before .are-parts .ensures l (g .row)) (not-false (c .before .before .before .before .before .before .are-parts .result) (c .before .before .before .before .before .if1 .left)) in
     qv-nothing (c .before .before .before .before .before .before .before .before .args .n) l (x .kinds) (sym (c .before .before .before .before .total .ensures l (g .row)) ∙ c .before .before .before .if2 .left) (c .before .before .common-kind .ensures l _ _ (x .kinds)) (c .enum-told .given .1)))

@@ -131,7 +131,7 @@ pub +each-as+elements-as+members-as+value-as-spec : {M : Type 1} → statement M
     (λ c κs. c .before .before .pre .1 .0)
     (λ c. search needs)
     -- literals-requires
-    (λ c κs. let a = c .before .before .before .before .before .before .args in (scalar-kind (a .depth) (a .ty .now) (a .o) (c .before .before .before .before .before .before .pre .1 .0) (c .before .before .before .head-at .ensures) (c .before .h .given .1), c .before .before .before .before .before .before .pre .1 .1))
+    (λ c κs. let a = c .before .before .before .before .before .before .args in (scalar-kind (a .depth) (a .ty .now) (a .o) (search) (c .before .before .before .head-at .ensures) (c .before .h .given .1), c .before .before .before .before .before .before .pre .1 .1))
     -- add-with-type
     (λ c. let a = c .before .before .before .before .before .before .before .args in let p = c .before .before .before .before .before .before .before .pre .1 .0 in record { fits = omega (arith, any-front (p .stands)) })
     (λ c κs. search needs)
@@ -185,15 +185,15 @@ pub +each-as+elements-as+members-as+value-as-spec : {M : Type 1} → statement M
     (λ c κs. c .before .before .pre .1)
     (λ c. search needs)
     -- literal-as-requires
-    (λ c κs. let a = c .before .before .before .before .before .before .args in scalar-kind (a .depth) (a .ty .now) (a .o) (c .before .before .before .before .before .before .pre .1) (c .before .before .before .head-at .ensures) (c .before .k .given .1))
+    (λ c κs. let a = c .before .before .before .before .before .before .args in scalar-kind (a .depth) (a .ty .now) (a .o) (search) (c .before .before .before .head-at .ensures) (c .before .k .given .1))
     -- add-with-type
     (λ c. let a = c .before .before .before .before .before .before .before .args in let p = c .before .before .before .before .before .before .before .pre .1 in record { fits = omega (arith, any-front (p .stands)) })
     (λ c κs. search needs) (λ c. search needs)
     -- vector-as-requires
-    (λ c κs. let a = c .before .before .before .before .before .before .args in vector-kind (a .depth) (a .ty .now) (a .o) (c .before .before .before .before .before .before .pre .1) (c .before .before .before .head-at .ensures) (c .before .n .given .1))
+    (λ c κs. let a = c .before .before .before .before .before .before .args in vector-kind (a .depth) (a .ty .now) (a .o) (search) (c .before .before .before .head-at .ensures) (c .before .n .given .1))
     (λ c. search needs) (λ c κs. search needs) (λ c. search needs)
     -- matrix-as-requires
-    (λ c κs. let a = c .before .before .before .before .before .before .args in matrix-kind (a .depth) (a .ty .now) (a .o) (c .before .before .before .before .before .before .pre .1) (c .before .before .before .head-at .ensures) (c .before .c .given .1))
+    (λ c κs. let a = c .before .before .before .before .before .before .args in matrix-kind (a .depth) (a .ty .now) (a .o) (search) (c .before .before .before .head-at .ensures) (c .before .c .given .1))
     (λ c. search needs) (λ c κs. search needs) (λ c. search needs) (λ c κs. search needs) (λ c κs. search needs) (λ c κs. search needs)
     -- returns
     (λ c u z w.
@@ -204,12 +204,12 @@ pub +each-as+elements-as+members-as+value-as-spec : {M : Type 1} → statement M
     (λ c. let w = holds (c .before .four-at .result) (c .before .four-at .ensures) (c .if1 .left) in record { fits = omega (arith, w .room) })
     (λ c. search needs)
     -- sub-elements-as
-    (λ c. let a = c .before .before .before .before .before .before .before .before .before .before .args in array-here (c .before .before .before .before .before .before .before .before .before .before .pre .1) (c .before .before .before .before .before .before .before .head-at .ensures) (c .before .before .before .before .before .n2 .given .1) .deep)
+    (λ c. let a = c .before .before .before .before .before .before .before .before .before .before .args in array-here (c .before .before .before .before .before .before .before .before .before .before .pre .1) (search) (c .before .before .before .before .before .n2 .given .1) .deep)
     -- elements-as-requires
     (λ c κs.
     let a = c .before .before .before .before .before .before .before .before .before .before .args in
-    let x = array-here (c .before .before .before .before .before .before .before .before .before .before .pre .1) (c .before .before .before .before .before .before .before .head-at .ensures) (c .before .before .before .before .before .n2 .given .1) in (
-      omega (arith, c .before .before .before .before .before .before .before .before .before .before .pre .0, x .deep),
+    let x = array-here (search) (search) (c .before .before .before .before .before .n2 .given .1) in (
+      omega (arith, x .deep),
       (record { type = x .elem; end = c .before .before .before .before .before .before .before .before .before .before .pre .1 .end; stands = x .part }, holds (c .before .four-at .result) (c .before .four-at .ensures) (c .if1 .left) .room),
     ))
     (λ c. search needs) (λ c κs. search needs)
@@ -222,12 +222,12 @@ pub +each-as+elements-as+members-as+value-as-spec : {M : Type 1} → statement M
     (λ c. let w = holds (c .before .struct-starts .result) (c .before .struct-starts .ensures) (c .if2 .left) in record { fits = omega (arith, w .room) })
     (λ c. search needs)
     -- sub-members-as
-    (λ c. let a = c .before .before .before .before .before .before .before .before .args in struct-here (c .before .before .before .before .before .before .before .before .pre .1) (c .before .before .before .before .before .head-at .ensures) (c .before .before .before .i .given .1) .deep)
+    (λ c. let a = c .before .before .before .before .before .before .before .before .args in struct-here (search) (c .before .before .before .before .before .head-at .ensures) (c .before .before .before .i .given .1) .deep)
     -- members-as-requires
     (λ c κs.
     let a = c .before .before .before .before .before .before .before .before .args in
-    let x = struct-here (c .before .before .before .before .before .before .before .before .pre .1) (c .before .before .before .before .before .head-at .ensures) (c .before .before .before .i .given .1) in (
-      omega (arith, c .before .before .before .before .before .before .before .before .pre .0, x .deep),
+    let x = struct-here (search) (c .before .before .before .before .before .head-at .ensures) (c .before .before .before .i .given .1) in (
+      omega (arith, x .deep),
       (record { types = x .members; end = c .before .before .before .before .before .before .before .before .pre .1 .end; stands = x .parts }, holds (c .before .struct-starts .result) (c .before .struct-starts .ensures) (c .if2 .left) .room),
     ))
     -- returns-3
@@ -248,7 +248,7 @@ pub +each-as+elements-as+members-as+value-as-spec : {M : Type 1} → statement M
     -- returns-6
     (λ c u z w.
     let a = c .before .before .before .before .before .before .before .before .before .before .before .args in
-    array-says (a .s .now) (a .at) (a .depth) (a .ty .now) (a .o) u z w _ (sym (c .before .before .before .before .before .before .n2 .given .1) ∙ c .before .before .before .before .before .before .before .before .head-at .ensures u z w) (c .elements-as .result)
+    array-says (a .s .now) (a .at) (a .depth) (a .ty .now) (a .o) u z w _ (sym (search) ∙ c .before .before .before .before .before .before .before .before .head-at .ensures u z w) (c .elements-as .result)
     (rw (← c .before .before .before .before .low .ensures, ← c .before .before .before .high .ensures) (holds (c .before .before .four-at .result) (c .before .before .four-at .ensures) (c .before .if1 .left))) (c .elements-as .ensures))
     -- returns-7
     (λ c u z w.

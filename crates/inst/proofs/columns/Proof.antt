@@ -42,7 +42,7 @@ columns-spec =
     (λ c.
     let a = c .before .before .before .before .before .before .before .args in
     let l = c .before .before .before .before .before .loop in
-    let k = kind-of (a .k) (c .before .before .before .before .before .before .before .pre .0) in
+    let k = kind-of (a .k) (search) in
     let f : (j : Kind) → a .k ≡ kindNo j → Fits (a .s .now) (l .i) (Tv (a .r) j) (c .before .e .given .0 .0) =
     λ j p. subst (Told (Fits (a .s .now) (l .i) (Tv (a .r) j))) (c .before .e .given .1) (c .before .before .before .vector-as .ensures j p) in
     (f (k .kind) (k .no) .within, λ j p. same-trans (each-on (a .s .now) (l .i) (l .left) (Tv (a .r) j) (c .before .before .before .before .loop-test .taken) _ (f j p)) (l .inv .1 j p)))

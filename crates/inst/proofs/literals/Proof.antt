@@ -43,16 +43,16 @@ literals-spec =
     (λ c. record { fits = omega (arith, c .before .before .before .before .before .width .ensures .2) })
     -- add-i-2
     (λ c.
-    let k = kind-of (c .before .before .before .before .before .before .before .args .k) (c .before .before .before .before .before .before .before .pre .0) in
+    let k = kind-of _ (search) in
     let i = kind-is (k .kind) _ _ _ (k .no) (c .before .before .before .before .before .width .ensures .0) (c .before .before .before .before .top .ensures) in
-    let f : Fits (c .before .before .before .before .before .before .before .args .s .now) (c .before .before .before .loop .i) (Ts (k .kind)) (c .before .before .before .loop .i + (3 + (c .before .before .before .before .before .width .result))) = holds (c .before .is-literal .result) (c .before .is-literal .ensures (k .kind) i) (c .if1 .left) in
+    let f : Fits _ (c .before .before .before .loop .i) (Ts (k .kind)) (c .before .before .before .loop .i + (3 + (c .before .before .before .before .before .width .result))) = holds (c .before .is-literal .result) (c .before .is-literal .ensures (k .kind) i) (c .if1 .left) in
     record { fits = omega (arith, f .within) })
     (λ c. omega arith) (λ c. omega arith)
     -- loop-again
     (λ c.
     let a = c .before .before .before .before .before .before .before .args in
     let l = c .before .before .before .loop in
-    let k = kind-of (a .k) (c .before .before .before .before .before .before .before .pre .0) in
+    let k = kind-of (a .k) (search) in
     let is : (j : Kind) → a .k ≡ kindNo j → KindIs j (a .k) (c .before .before .before .before .before .width .result) (c .before .before .before .before .top .result) =
     λ j p. kind-is j _ _ _ p (c .before .before .before .before .before .width .ensures .0) (c .before .before .before .before .top .ensures) in
     let f : Fits (a .s .now) (l .i) (Ts (k .kind)) (l .i + (3 + (c .before .before .before .before .before .width .result))) = holds (c .before .is-literal .result) (c .before .is-literal .ensures (k .kind) (is (k .kind) (k .no))) (c .if1 .left) in

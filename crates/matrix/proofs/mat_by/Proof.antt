@@ -30,4 +30,4 @@ mat-by-spec =
     (λ c j v l n w h.
     let f = c .before .before .before .before .before .before .before .before .before .pre .1 .1 in
     let d = kind-goes j n _ (f .down v l w) (c .before .before .before .before .before .kind-converts .ensures) (not-false (c .before .before .before .before .before .kind-converts .result) (c .before .before .before .before .if1 .left)) in
-    mat-made w j n h d (f .stands j v l n w) _ _ (c .before .before .before .before .before .before .before .before .before .args .out .now) (c .before .before .mat-to .ensures)))
+    mat-made w j n h d (f .stands j v l n w) _ _ _ (c .before .before .mat-to .ensures)))

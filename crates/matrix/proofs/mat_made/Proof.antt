@@ -32,7 +32,7 @@ mat-made-spec =
     (λ c. search needs)
     -- returns-3
     (λ c s j i ps x.
-    let o = making-ok (remaking x) (x .ctor) (c .before .before .before .before .before .before .before .all-made .ensures) (c .before .before .before .before .before .before .if1 .left) in
+    let o = making-ok (remaking x) (x .ctor) (c .before .before .before .before .before .before .before .all-made .ensures) (search) in
     let u = c .before .before .before .before .before .before .before .before .before .before .args .out .now in
     builds-as u (remade x (o .1))
     (hands-put _ _ j (o .0) (remade-shaped x (o .1)) u (sym (c .before .before .before .before .before .room-for .ensures j (x .ctor .no)) ∙ not-false (c .before .before .before .before .before .room-for .result) (c .before .before .before .before .if2 .left)) (making-put (remaking x) (x .ctor) (o .1) (c .before .before .write-made .ensures)))))

@@ -21,7 +21,7 @@ mat-others-spec =
     -- goes-down-requires
     (λ c κs. let p = c .before .before .before .before .before .before .pre .1 in record { type = _; end = _; stands = c .before .before .next-type .ensures (p .value) (p .others) (p .row) .stands })
     -- returns
-    (λ c j v l n w h. builds-no (c .before .before .before .before .before .before .before .before .args .out .now) 7 (mat-no _ _ j v l (goes-no j _ (sym (not-true (c .before .goes-down .result) (c .if1 .taken)) ∙ c .before .goes-down .ensures j _ _ n (c .before .before .before .before .next-type .ensures v l w .stands)))))
+    (λ c j v l n w h. builds-no _ 7 (mat-no _ _ j v l (goes-no j _ (sym (not-true (c .before .goes-down .result) (c .if1 .taken)) ∙ c .before .goes-down .ensures j _ _ n (c .before .before .before .before .next-type .ensures v l w .stands)))))
     -- sub-last
     (λ c. let p = c .before .before .before .before .before .before .before .before .before .pre .1 in omega (arith, type-some (c .before .before .before .before .before .next-type .ensures (p .value) (p .others) (p .row) .stands)))
     -- array-write-ty
@@ -39,5 +39,5 @@ mat-others-spec =
     -- returns-2
     (λ c j v l n w h.
     let t = c .before .before .before .before .before .before .before .before .before .before .next-type .ensures v l w .stands in
-    let d = goes-to j _ (sym (not-false (c .before .before .before .before .before .before .before .goes-down .result) (c .before .before .before .before .before .before .if1 .left)) ∙ c .before .before .before .before .before .before .before .goes-down .ensures j _ _ n t) in
-    mat-made w j n h d (type-set j n (c .before .before .before .before .before .before .before .before .before .before .before .before .before .before .pre .0) d t) _ _ (c .before .before .before .before .before .before .before .before .before .before .before .before .before .before .args .out .now) (c .before .before .mat-to .ensures)))
+    let d = goes-to j _ (sym (not-false _ (search)) ∙ c .before .before .before .before .before .before .before .goes-down .ensures j _ _ n t) in
+    mat-made w j n h d (type-set j n (search) d t) _ _ _ (c .before .before .mat-to .ensures)))

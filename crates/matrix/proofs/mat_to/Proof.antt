@@ -25,4 +25,4 @@ mat-to-spec =
     -- returns-2
     (λ c j u l x.
     let y = to-becoming x (sym (not-false (c .before .before .before .before .before .all-convert .result) (c .before .before .before .before .if1 .left)) ∙ c .before .before .before .before .before .all-convert .ensures l u _ (x .row) (x .stands)) in
-    builds-as (c .before .before .before .before .before .before .before .before .before .args .out .now) (to-made x _ _ y) (c .before .before .of-parts .ensures j u l (y .intos) (y .parts))))
+    builds-as _ (to-made x _ _ y) (c .before .before .of-parts .ensures j u l (y .intos) (y .parts))))

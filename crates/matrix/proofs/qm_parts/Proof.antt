@@ -23,8 +23,8 @@ qm-parts-spec =
     (λ c l w h n.
     let o = c .before .before .before .before .before .before .before .before .common-type-of in
     let f = common-of _ (o .result) (o .last .1 .1 .0) (o .ensures l w) (c .before .before .before .before .before .enum-told .given .1) in
-    builds-as (c .before .before .before .before .before .before .before .before .before .before .before .before .args .out .now) (qm-typed _ _ l (f .is)) (c .before .before .qm-to .ensures (f .type) l record { end = _; stands = f .stands; is = f .is; row = w; size = n }))
+    builds-as _ (qm-typed _ _ l (f .is)) (c .before .before .qm-to .ensures (f .type) l record { end = _; stands = f .stands; is = f .is; row = w; size = n }))
     -- returns-2
     (λ c l w h n.
     let o = c .before .before .before .common-type-of in
-    builds-no (c .before .before .before .before .before .before .before .args .out .now) 10 (qm-none _ _ l (common-none _ (o .result) (o .last .1 .1 .0) (o .ensures l w) (c .enum-told2 .given .1)))))
+    builds-no _ 10 (qm-none _ _ l (common-none _ (o .result) (o .last .1 .1 .0) (o .ensures l w) (c .enum-told2 .given .1)))))

@@ -16,4 +16,4 @@ le-eight-spec =
     (λ c κs. omega (arith, c .before .before .before .le-four .ensures .end, c .before .before .before .le-four .kept .0, le-len 4 (c .before .before .before .before .before .before .args .n)))
     (λ c. search needs)
     -- returns
-    (λ c. rw (le-eight (c .before .before .before .before .before .before .before .before .before .args .n)) (put-put (c .before .before .before .before .before .before .le-four .ensures) (c .before .before .le-four2 .ensures))))
+    (λ c. rw (le-eight _) (put-put (c .before .before .before .before .before .before .le-four .ensures) (c .before .before .le-four2 .ensures))))

@@ -29,5 +29,5 @@ number-spec =
     (λ c. let e : c .before .before .before .before .before .args .w ≡ 2 = omega arith in rw e (c .two .ensures))
     (λ c. search needs) (λ c κs. search needs)
     -- returns-4
-    (λ c. let e : c .before .before .before .before .before .before .before .args .w ≡ 1 = omega arith in rw e (c .wide .ensures .0 ∙ sym (number-one (c .before .before .before .before .before .before .before .args .s .now) (c .before .before .before .before .before .before .before .args .at))))
+    (λ c. let e : c .before .before .before .before .before .before .before .args .w ≡ 1 = omega arith in rw e (c .wide .ensures .0 ∙ sym (number-one _ _)))
     returns-5)

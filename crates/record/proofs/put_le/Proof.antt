@@ -24,12 +24,12 @@ put-le-spec =
     (λ c κs. omega (arith, c .before .before .before .pre .1, width-eight (c .before .before .before .args .w) (c .before .before .before .pre .0) (c .before .if1 .taken)))
     (λ c. search needs)
     -- returns
-    (λ c. rw (width-eight (c .before .before .before .before .before .before .args .w) (c .before .before .before .before .before .before .pre .0) (c .before .before .before .before .if1 .taken)) (c .before .before .le-eight .ensures))
+    (λ c. rw (width-eight _ (search) (c .before .before .before .before .if1 .taken)) (c .before .before .le-eight .ensures))
     -- le-four-requires
     (λ c κs. omega (arith, c .before .before .before .before .pre .1, width-four (c .before .before .before .before .args .w) (c .before .before .before .before .pre .0) (c .before .if2 .taken) (c .before .before .if1 .left)))
     (λ c. search needs)
     -- returns-2
-    (λ c. rw (width-four (c .before .before .before .before .before .before .before .args .w) (c .before .before .before .before .before .before .before .pre .0) (c .before .before .before .before .if2 .taken) (c .before .before .before .before .before .if1 .left)) (c .before .before .le-four .ensures))
+    (λ c. rw (width-four _ (search) (c .before .before .before .before .if2 .taken) (c .before .before .before .before .before .if1 .left)) (c .before .before .le-four .ensures))
     (λ c κs. search needs) (λ c. search needs)
     -- returns-3
     (λ c. let e : c .before .before .before .before .before .before .before .before .args .w ≡ 2 = omega arith in rw e (c .before .before .le-two .ensures))

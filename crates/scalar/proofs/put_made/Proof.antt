@@ -43,4 +43,4 @@ put-made-spec =
     -- returns-3
     (λ c s j a b x w g.
     let m = c .before .before .before .before .before .before .before .made-at in
-    literal-put w (c .before .before .before .before .before .before .before .before .if1 .left) x (m .result) (m .ensures) g (c .before .before .before .before .before .p .given .1) (c .before .before .put-literal .ensures)))
+    literal-put w (search) x (m .result) (m .ensures) g (c .before .before .before .before .before .p .given .1) (c .before .before .put-literal .ensures)))

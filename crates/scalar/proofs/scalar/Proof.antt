@@ -25,6 +25,6 @@ scalar-spec =
     (λ c s j v e n w.
     let m = c .before .before .before .before .made-at in
     let l = c .before .before .before .before .before .if2 .left in
-    let t = concrete j n (c .before .before .before .before .before .before .before .before .is-abstract .ensures) (c .before .before .before .before .before .before .before .if1 .left) in
+    let t = concrete j n (c .before .before .before .before .before .before .before .before .is-abstract .ensures) (search) in
     let x : Ctor _ _ s j = record { ruled = e; no = n; concrete = t } in
     builds-as _ (single-build w l x (m .result) (m .ensures)) (c .before .before .hand-literal .ensures j n (single-good w l x (m .result) (m .ensures)))))

@@ -110,7 +110,7 @@ pub +members-len+walk-len-spec : {M : Type 1} → statement M
     (omega (arith, c .before .before .before .before .before .pre .0, x .deep), record { type = x .elem; end = c .before .before .before .before .before .pre .1 .end; stands = x .part }))
     -- array-len-requires
     (λ c κs.
-    let x = array-here (c .before .before .before .before .before .before .pre .1) (c .before .before .before .before .head-at .ensures)
+    let x = array-here (search) (c .before .before .before .before .head-at .ensures)
     (c .before .before .n2 .given .1) in
     x .some)
     (λ c. search needs) (λ c. omega arith)

@@ -79,17 +79,17 @@ head-at-spec =
     (λ c.
     let w = c .before .before .before .before .before .before .before .before .before .before .pre .stands in
     let x = struct-by w
-    (last-mark w (c .before .before .before .before .before .before .before .if1 .left) (c .before .before .before .before .before .before .if2 .left) (c .before .before .before .before .before .if3 .left) (c .before .before .before .before .if4 .left)) in
+    (last-mark w (search) (search) (c .before .before .before .before .before .if3 .left) (c .before .before .before .before .if4 .left)) in
     omega (arith, x .room, w .within))
     (λ c. omega arith)
     -- shared-slice-read-join-6
     (λ c.
     let w = c .before .before .before .before .before .before .before .before .before .before .before .pre .stands in
     let x = struct-by w
-    (last-mark w (c .before .before .before .before .before .before .before .before .if1 .left) (c .before .before .before .before .before .before .before .if2 .left) (c .before .before .before .before .before .before .if3 .left) (c .before .before .before .before .before .if4 .left)) in
+    (last-mark w (search) (search) (search) (c .before .before .before .before .before .if4 .left)) in
     omega (arith, x .room, w .within))
     (λ c κs. search needs)
     -- returns-5
     (λ c t e w.
     rw (c .before .before .before .join2 .ensures, c .join3 .ensures)
-    (struct-head (struct-by w (last-mark w (c .before .before .before .before .before .before .before .before .before .if1 .left) (c .before .before .before .before .before .before .before .before .if2 .left) (c .before .before .before .before .before .before .before .if3 .left) (c .before .before .before .before .before .before .if4 .left))))))
+    (struct-head (struct-by w (last-mark w (search) (search) (search) (search))))))

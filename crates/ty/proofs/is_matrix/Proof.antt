@@ -23,5 +23,5 @@ is-matrix-spec =
     -- returns-8
     (λ c.
     decides-as (c .is-scalar .result) (c .is-scalar .ensures)
-    (λ x. record { first = omega arith; second = omega arith; wide = known (c .before .before .before .before .before .before .before .before .is-side .ensures) (c .before .before .before .before .before .before .before .if5 .left); high = known (c .before .before .before .before .before .is-side2 .ensures) (c .before .before .before .before .if6 .left); scalar = x; float = known (c .before .before .is-float-kind .ensures) (c .before .if7 .left); deep = omega arith })
+    (λ x. record { first = omega arith; second = omega arith; wide = known (c .before .before .before .before .before .before .before .before .is-side .ensures) (search); high = known (c .before .before .before .before .before .is-side2 .ensures) (c .before .before .before .before .if6 .left); scalar = x; float = known (c .before .before .is-float-kind .ensures) (c .before .if7 .left); deep = omega arith })
     (λ w. w .scalar)))

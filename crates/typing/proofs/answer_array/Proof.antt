@@ -25,7 +25,7 @@ answer-array-spec =
     -- returns
     (λ c l g.
     let o = c .before .before .before .before .before .before .before .before .before .common-type in
-    let x = common-of _ (o .result) (o .last .1 .0) (o .ensures l (g .row)) (c .before .before .before .before .before .before .q .given .1) in
+    let x = common-of _ (o .result) (o .last .1 .0) (o .ensures l (g .row)) (search) in
     answer-type (typed Qa l) _ (qa-some l (g .count) (x .is)) (c .before .before .hand-array .ensures (x .type) (x .stands)))
     -- returns-2
     (λ c l g.

@@ -26,4 +26,4 @@ hand-array-spec =
     -- same-length
     (λ c. omega (arith, c .before .before .copy .kept .1 .1 .1 .0, c .before .before .before .before .before .before .put-le .kept .0, marked-len (c .before .before .before .before .before .before .before .before .before .before .before .before .args .out .now) 84 97))
     -- returns-3
-    (λ c t w. array-put w (c .before .before .before .before .before .before .before .before .before .before .before .before .args .n) (c .before .before .before .before .before .before .before .before .before .before .before .before .args .out .now) (omega arith) (c .before .before .before .before .before .before .put-le .ensures) (c .before .before .copy .ensures)))
+    (λ c t w. array-put w _ _ (omega arith) (search) (c .before .before .copy .ensures)))

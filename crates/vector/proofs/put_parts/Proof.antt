@@ -36,7 +36,7 @@ put-parts-spec =
     -- loop-less
     (λ c.
     let p = c .before .before .before .before .before .before .before .before .before .before .pre .some in
-    omega (arith, args-less (c .before .before .before .before .before .before .before .loop .inv _ _ _ (p .no) (p .goes)) (c .before .before .before .before .before .before .loop-test .taken) (c .before .before .before .before .next-arg .ensures)))
+    omega (arith, args-less (c .before .before .before .before .before .before .before .loop .inv _ _ _ (p .no) (p .goes)) (search) (c .before .before .before .before .next-arg .ensures)))
     -- loop-again
     (λ c j l ps n g. search (put-on (c .before .before .before .before .before .before .before .loop .inv j l ps n g)))
     -- same-length

@@ -25,7 +25,7 @@ qv-one-spec =
     -- returns
     (λ c v x.
     let a = c .before .before .before .before .before .before .before .before .before .before .args in
-    let y = arg-literal x (c .before .before .before .before .before .before .if1 .taken) in
+    let y = arg-literal x (search) in
     let q = literal-bits y (c .before .before .before .before .payload-at .ensures) in
     builds-as (a .out .now) (qv-literal (a .n) y q) (c .before .before .repeated .ensures (y .kind) (y .no) (literal-good y q)))
     -- shared-slice-read-if3
@@ -34,6 +34,6 @@ qv-one-spec =
     (λ c v x. let a = c .before .before .before .before .before .before .before .args in builds-no (a .out .now) 7 (qv-other-length (a .n) (arg-vector x (c .before .before .if2 .taken)) (c .if3 .taken)))
     (λ c κs. search needs) (λ c. search needs)
     -- returns-3
-    (λ c v x. let a = c .before .before .before .before .before .before .before .before .before .before .before .args in builds-as (a .out .now) (qv-length (a .n) (arg-vector x (c .before .before .before .before .before .before .if2 .taken)) (c .before .before .before .before .if3 .left)) (hand-kept x refl (c .before .before .hand .ensures)))
+    (λ c v x. let a = c .before .before .before .before .before .before .before .before .before .before .before .args in builds-as (a .out .now) (qv-length (a .n) (arg-vector x (search)) (c .before .before .before .before .if3 .left)) (hand-kept x refl (c .before .before .hand .ensures)))
     -- returns-4
     (λ c v x. search (builds-miscount, qv-other, arg-other)))

@@ -35,13 +35,13 @@ qv-parts-spec =
     let p = c .before .before .before .before .before .before .before .before .before .before .before .before .pre .1 in
     let o = c .before .before .before .before .before .before .common-type-of in
     let f = common-of _ (o .result) (o .last .1 .1 .0) (o .ensures (p .values) (p .row)) (c .before .before .before .q .given .1) in
-    record { values = p .values; type = f .type; common = in-common (p .row) f (c .before .before .before .before .before .before .before .before .before .flat-count .ensures _ (p .row)) (c .before .before .before .before .before .before .before .before .if1 .left) })
+    record { values = p .values; type = f .type; common = in-common (p .row) f (c .before .before .before .before .before .before .before .before .before .flat-count .ensures _ (p .row)) (search) })
     (λ c. search needs) (λ c. search needs)
     -- returns-2
     (λ c l x.
     let o = c .before .before .before .before .before .before .before .before .before .common-type-of in
     let f = common-of _ (o .result) (o .last .1 .1 .0) (o .ensures l x) (c .before .before .before .before .before .before .q .given .1) in
-    c .before .before .to-common .ensures l (f .type) (in-common x f (c .before .before .before .before .before .before .before .before .before .before .before .before .flat-count .ensures l x) (c .before .before .before .before .before .before .before .before .before .before .before .if1 .left)))
+    c .before .before .to-common .ensures l (f .type) (in-common x f (c .before .before .before .before .before .before .before .before .before .before .before .before .flat-count .ensures l x) (search)))
     -- returns-3
     (λ c l x.
     let a = c .before .before .before .before .before .before .before .before .before .args in

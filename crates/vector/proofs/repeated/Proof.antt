@@ -24,5 +24,5 @@ repeated-spec =
     (λ c j e g.
     let a = c .before .before .before .before .before .before .before .before .before .before .before .args in
     let ps = replicate (a .n) (a .bits) in
-    vector-record (a .n) (c .before .before .before .before .before .before .before .before .before .vector-len .ensures) j e ps (length-replicate (a .n) (a .bits)) (splat-good j (a .n) (a .bits) g) (a .out .now) (c .before .before .before .before .before .before .before .before .if1 .left) (c .before .before .before .before .before .before .put-three .ensures)
+    vector-record (a .n) (c .before .before .before .before .before .before .before .before .before .vector-len .ensures) j e ps (length-replicate (a .n) (a .bits)) (splat-good j (a .n) (a .bits) g) (a .out .now) (search) (search)
     (copies-put j (a .n) (a .bits) e (c .before .before .put-literals .ensures))))

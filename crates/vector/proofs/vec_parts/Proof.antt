@@ -56,7 +56,7 @@ vec-parts-spec =
     (λ c j l e x.
     let a = c .before .before .before .before .before .before .before .before .before .before .before .before .args in
     let m = c .before .before .before .before .before .before .before .before .before .flat-count in
-    let f = subst T (sym (not-false (c .before .before .before .before .before .before .before .all-flat .result) (c .before .before .before .before .before .before .if2 .left)) ∙ c .before .before .before .before .before .before .before .all-flat .ensures l x) tt in
+    let f = subst T (sym (not-false _ (search)) ∙ c .before .before .before .before .before .before .before .all-flat .ensures l x) tt in
     let g = fits-goes j x f e (c .before .before .before .before .before .fits2 .ensures) (not-false (c .before .before .before .before .before .fits2 .result) (c .before .before .before .before .if3 .left)) in
-    builds-as (a .out .now) (vec-some (a .n) (m .result) j (flattened l) (c .before .before .before .before .before .before .before .before .if1 .left) (m .ensures l x) (g .0) (g .1 .goes))
+    builds-as (a .out .now) (vec-some (a .n) (m .result) j (flattened l) (search) (m .ensures l x) (g .0) (g .1 .goes))
     (c .before .before .write-parts .ensures j l (g .0) e (g .1) (some-length (payTo j) (flattened l) (g .0) (g .1 .goes) ∙ (sym (m .ensures l x) ∙ c .before .before .before .before .before .before .before .before .if1 .left)))))

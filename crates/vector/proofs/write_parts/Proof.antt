@@ -27,4 +27,4 @@ write-parts-spec =
     -- returns-2
     (λ c j l ps e g q.
     let a = c .before .before .before .before .before .before .before .before .before .before .before .before .args in
-    vector-record (a .n) (c .before .before .before .before .before .before .before .before .before .vector-len .ensures) j e ps q (goes-good g) (a .out .now) (c .before .before .before .before .before .before .before .before .if1 .left) (c .before .before .before .before .before .before .put-three .ensures) (c .before .before .put-parts .ensures j l ps e g)))
+    vector-record (a .n) (c .before .before .before .before .before .before .before .before .before .vector-len .ensures) j e ps q (goes-good g) (a .out .now) (search) (search) (c .before .before .put-parts .ensures j l ps e g)))

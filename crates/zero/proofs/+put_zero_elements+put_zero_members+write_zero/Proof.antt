@@ -137,7 +137,7 @@ pub +put-zero-elements+put-zero-members+write-zero-spec : {M : Type 1} → state
     let p = c .before .before .before .before .before .before .before .before .before .before .before .pre .1 in
     let h = c .before .before .before .before .before .before .before .before .head-at .ensures in
     let e = c .before .before .before .before .before .before .n2 .given .1 in
-    (omega (arith, c .before .before .before .before .before .before .before .before .before .before .before .pre .0, array-deep p h e), array-parts p h e (c .before .before .before .put-array .ensures) (c .before .before .before .put-array .kept .1 .0)))
+    (omega (arith, array-deep p h e), array-parts p h e (c .before .before .before .put-array .ensures) (c .before .before .before .put-array .kept .1 .0)))
     (λ c. search needs)
     -- put-struct-requires
     (λ c κs. search struct-room)
@@ -149,7 +149,7 @@ pub +put-zero-elements+put-zero-members+write-zero-spec : {M : Type 1} → state
     let p = c .before .before .before .before .before .before .before .before .before .before .before .pre .1 in
     let h = c .before .before .before .before .before .before .before .before .head-at .ensures in
     let e = c .before .before .before .before .before .before .i .given .1 in
-    (omega (arith, c .before .before .before .before .before .before .before .before .before .before .before .pre .0, struct-deep p h e), struct-parts p h e (c .before .before .before .put-struct .ensures) (c .before .before .before .put-struct .kept .1 .1 .0)))
+    (omega (arith, struct-deep p h e), struct-parts p h e (c .before .before .before .put-struct .ensures) (c .before .before .before .put-struct .kept .1 .1 .0)))
     -- same-length
     (λ c. c .before .before .put-zero .kept .1 .0)
     -- returns
@@ -165,8 +165,8 @@ pub +put-zero-elements+put-zero-members+write-zero-spec : {M : Type 1} → state
     -- same-length-4
     (λ c. c .before .before .put-zero-elements .kept .1 .1 .1 .1 .0 ∙ c .before .before .before .before .before .before .put-array .kept .1 .0)
     -- returns-4
-    (λ c u e w. array-done w (sym (c .before .before .before .before .before .before .before .before .before .n2 .given .1) ∙ c .before .before .before .before .before .before .before .before .before .before .before .head-at .ensures u e w) (c .before .before .before .before .before .before .put-array .ensures) (c .before .before .put-zero-elements .ensures))
+    (λ c u e w. array-done w (sym (search) ∙ c .before .before .before .before .before .before .before .before .before .before .before .head-at .ensures u e w) (search) (c .before .before .put-zero-elements .ensures))
     -- same-length-5
     (λ c. c .before .before .put-zero-members .kept .1 .1 .1 .1 .0 ∙ c .before .before .before .before .before .before .put-struct .kept .1 .1 .0)
     -- returns-5
-    (λ c u e w. struct-done w (sym (c .before .before .before .before .before .before .before .before .before .i .given .1) ∙ c .before .before .before .before .before .before .before .before .before .before .before .head-at .ensures u e w) (c .before .before .before .before .before .before .put-struct .ensures) (c .before .before .put-zero-members .ensures)))
+    (λ c u e w. struct-done w (sym (c .before .before .before .before .before .before .before .before .before .i .given .1) ∙ c .before .before .before .before .before .before .before .before .before .before .before .head-at .ensures u e w) (search) (c .before .before .put-zero-members .ensures)))

@@ -15,7 +15,7 @@ zero-value-spec =
     -- returns
     (λ c t w.
     let n = is-len _ _ _ _ (sym (c .before .before .n .given .1) ∙ c .before .before .before .before .value-len .ensures t _ w) in
-    zero-refused t (w .shaped) (c .before .before .before .before .before .before .before .args .out .now) (omega (arith, n .1, c .if1 .taken)))
+    zero-refused t (w .shaped) _ (omega (arith, n .1, c .if1 .taken)))
     -- write-zero-requires
     (λ c κs.
     let p = c .before .before .before .before .before .before .before .before .pre in
@@ -25,7 +25,7 @@ zero-value-spec =
     -- returns-2
     (λ c t w.
     let n = is-len _ _ _ _ (sym (c .before .before .before .before .before .before .n .given .1) ∙ c .before .before .before .before .before .before .before .before .value-len .ensures t _ w) in
-    zero-record t (w .shaped) (c .before .before .before .before .before .before .before .before .before .before .before .args .out .now) (omega (arith, n .1, c .before .before .before .before .if1 .left)) (c .before .before .write-zero .ensures t _ w .1))
+    zero-record t (w .shaped) _ (omega (arith, n .1, c .before .before .before .before .if1 .left)) (c .before .before .write-zero .ensures t _ w .1))
     -- returns-3
     (λ c t w.
     let n = long-len _ _ (sym (c .enum-told .given .1) ∙ c .before .before .value-len .ensures t _ w) in
