@@ -2,20 +2,19 @@
 use mathlib.Core.Path.{_≡_, refl, sym, ap, _∙_}
 use mathlib.Core.Option.{none, some}
 use mathlib.Core.List.{List, [], _∷_, _++_, map}
-use mathlib.Core.Bool.{Bool, true, false, _&&_}
+use mathlib.Core.Bool.{Bool, true, false}
 use Prim.Native.Nat.{ℕ, _+_, _*_, _≤_}
 use native.Mathlib.Omega.{arith}
 use borrow.Author.Tests.{eq-eqb, ne-eqb}
-use lib.Dec.{T, leb, le→leb, leb→le}
+use lib.Dec.{T, leb, le→leb}
 use lib.ListN.{length, getD}
 use Rattle.meaning.specs.Scalars.{some?}
 use Rattle.meaning.specs.Trees.{Ty, Ta, Val, Va, typeOf, valsOf, countVals, valLen}
-use Rattle.meaning.specs.Records.{‘V’, ‘a’, le, u16, tyBytes, valBytes, joined, shapedTy, shapedVal}
+use Rattle.meaning.specs.Records.{‘V’, ‘a’, le, tyBytes, valBytes, joined, shapedVal}
 use Rattle.meaning.specs.Answers.{ok, no, miscount, allSome}
 use Rattle.meaning.specs.Convert.{convVal, common}
 use Rattle.meaning.specs.Build.{elements, arrayOf, runtimeOf, qaOf}
 use Rattle.laws.proofs.AgreeBuild.{AllOk, arr-made}
-use Rattle.laws.proofs.Back.{and-l, and-r}
 use Rattle.laws.proofs.Length.{val-len}
 use Rattle.laws.proofs.SoundVal.{joined-vals}
 use Rattle.ty.specs.Stands.{Stands}

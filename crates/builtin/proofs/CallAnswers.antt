@@ -1,16 +1,16 @@
 -- From the stage, the target and the arguments that were read to the answer: "Order: 3, 1, 2, then the order above, then 22".
-use mathlib.Core.Path.{_≡_, refl, subst}
-use mathlib.Core.Option.{Option, none, some}
+use mathlib.Core.Path.{_≡_, subst}
+use mathlib.Core.Option.{none, some}
 use mathlib.Core.Bool.{_&&_}
 use mathlib.Core.List.{List, [], _∷_, map}
-use Prim.Native.Nat.{ℕ, _≤_}
+use Prim.Native.Nat.{ℕ}
 use native.Mathlib.Omega.{arith}
-use lib.Dec.{T, leb, leb→le}
-use lib.ListN.{length, length-map}
+use lib.Dec.{T}
+use lib.ListN.{length}
 use Rattle.meaning.specs.Kinds.{Kind, kindNo, isFloat}
 use Rattle.meaning.specs.Scalars.{Stage}
 use Rattle.meaning.specs.Trees.{Ty, Tv, Tm, Val, Target, typeOf}
-use Rattle.meaning.specs.Records.{every, side, shapedTy, shapedVal, goodTy, goodVal, goodArg, goodTys, goodArgs}
+use Rattle.meaning.specs.Records.{every, side, shapedTy, shapedVal, goodTy, goodVal, goodTys, goodArgs}
 use Rattle.meaning.specs.Read.{readTarget, readVals}
 use Rattle.meaning.specs.Answers.{no}
 use Rattle.meaning.specs.Build.{build}

@@ -20,10 +20,6 @@ use Rattle.error.specs.declared.Written.{Written}
 
 -- ---- the target, once it is read
 
-pub record IsRuntime (target : List ℕ) : Type 0 where
-  pub type : Ty
-  pub whole : Stands 14 target 2 type (length target)
-
 -- what is built of the arguments for a target
 abbrev pub BuildsOf : Stage → Target → List ℕ → ℕ → List ℕ → Written → List ℕ → Type 0
 BuildsOf s g args n out r out′ = (l : List Val) → Given args n l → Builds (build s g l) out r out′

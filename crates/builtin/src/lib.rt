@@ -16,12 +16,12 @@ ghost use Rattle.meaning.specs.Records.{side};
 ghost use Rattle.meaning.specs.Entries.{buildAnswer};
 ghost use Rattle.literal.specs.LiteralAnswers.{SomeStage};
 ghost use Rattle.ty.specs.TypeFronts.{floatNumber};
-ghost use Rattle.ty.specs.Targets.{Meant};
+ghost use Rattle.ty.specs.Targets.{RuntimeIs, Meant};
 ghost use Rattle.args.specs.Row.{SomeGiven};
 ghost use Rattle.conv.specs.Ranked.{OneType};
 ghost use Rattle.error.specs.Told.{Told};
 ghost use Rattle.scalar.specs.Made.{SomeKind};
-ghost use Rattle.builtin.specs.Calls.{IsRuntime, TypeBuilt, LeafBuilt, RuntimeBuilt, ShapeBuilt, TargetBuilt, TargetAnswers};
+ghost use Rattle.builtin.specs.Calls.{TypeBuilt, LeafBuilt, RuntimeBuilt, ShapeBuilt, TargetBuilt, TargetAnswers};
 
 // ---- the arguments are read: at least one, or none
 
@@ -81,7 +81,7 @@ fn type_given(rules: Rules, target: &[u8], args: &[u8], count: usize, out: &mut 
 
 // A runtime-sized array: "4 .. building `Tr` with none".
 fn runtime_given(target: &[u8], args: &[u8], count: usize, out: &mut [u8]) -> Written
-    requires { ⌜ IsRuntime (now target) × SomeGiven (now args) count ⌝ }
+    requires { ⌜ RuntimeIs (now target) × SomeGiven (now args) count ⌝ }
     ensures { λ r. ⌜ RuntimeBuilt (now (target .entry)) (now (args .entry)) count (now (out .entry)) r (now (out .exit)) ⌝ }
 {
     if count == 0 {

@@ -100,10 +100,5 @@ convertRead g args room = orNo 2 (readVals g args) >>= λ l. only l >>= λ v. co
 abbrev pub TypeTold : List ℕ → List ℕ → List ℕ → Written → List ℕ → Type 0
 TypeTold target args out r out′ = (t : Ty) → Whole target t → Told (convertRead (Of t) args (length out)) out r out′
 
-pub record IsRuntime (target : List ℕ) : Type 0 where
-  pub type : Ty
-  pub whole : Stands 14 target 2 type (length target)
-  pub small : T (goodWithin 14 4092 type)
-
 abbrev pub RuntimeTold : List ℕ → List ℕ → List ℕ → Written → List ℕ → Type 0
 RuntimeTold target args out r out′ = (t : Ty) → Stands 14 target 2 t (length target) → T (goodWithin 14 4092 t) → Told (convertRead (Tr t) args (length out)) out r out′

@@ -13,7 +13,8 @@ ghost use Rattle.meaning.specs.Entries.{convertAnswer};
 ghost use Rattle.conv.specs.Ranked.{OneType};
 ghost use Rattle.record.specs.Bytes.{Put};
 ghost use Rattle.error.specs.Told.{Told};
-ghost use Rattle.convert_to.specs.Conversions.{Singles, SomeAsked, Converts, SomeBecomes, Writes, SomeRuntime, ConvertsRuntime, TypeTold, IsRuntime, RuntimeTold};
+ghost use Rattle.ty.specs.Targets.{RuntimeIs};
+ghost use Rattle.convert_to.specs.Conversions.{Singles, SomeAsked, Converts, SomeBecomes, Writes, SomeRuntime, ConvertsRuntime, TypeTold, RuntimeTold};
 
 // The arguments are one value, whose type's record was written and ends there; or they are not.
 enum Single {
@@ -104,7 +105,7 @@ fn convert_to_type(target: &[u8], args: &[u8], out: &mut [u8]) -> Written
 
 // To a runtime-sized array.
 fn convert_to_runtime(target: &[u8], args: &[u8], out: &mut [u8]) -> Written
-    requires { ⌜ IsRuntime (now target) ⌝ }
+    requires { ⌜ RuntimeIs (now target) ⌝ }
     ensures { λ r. ⌜ RuntimeTold (now (target .entry)) (now (args .entry)) (now (out .entry)) r (now (out .exit)) ⌝ }
 {
     let mut buf = [0u8; Limit::TYPE_BYTES];

@@ -17,7 +17,7 @@ use Rattle.laws.proofs.Same.{both}
 use Rattle.laws.proofs.Sound.{Bytes}
 use Rattle.laws.proofs.Exact.{target-exact}
 use Rattle.ty.specs.Stands.{Stands}
-use Rattle.ty.specs.Targets.{ArrayShape, VectorShape, MatrixShape, RuntimeTarget, TypeTarget, targetOf, isBad, TypeIs, RuntimeIs, Meant}
+use Rattle.ty.specs.Targets.{ArrayShape, VectorShape, MatrixShape, RuntimeTarget, TypeTarget, targetOf, isBad, Meant}
 use Rattle.record.proofs.Places.{view2, view3, view4}
 use Rattle.ty.specs.declared.Target.{Target}
 use Rattle.ty.specs.declared.Target.the-variants.{«Type», Runtime, Array, Vector, Matrix, Bad}

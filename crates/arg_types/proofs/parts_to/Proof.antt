@@ -40,7 +40,7 @@ parts-to-spec =
     -- end-of-type-requires
     (λ c κs. let p = c .before .before .before .before .before .pre in types-standing (c .before .before .before .loop .inv (p .types) (p .row)) (c .before .before .loop-test .taken))
     -- loop-less
-    (λ c. let p = c .before .before .before .before .before .before .pre in omega (arith, c .before .before .before .loop-test .taken, types-less (c .before .before .before .before .loop .inv (p .types) (p .row)) (c .before .before .before .loop-test .taken) (c .end-of-type .ensures)))
+    (λ c. omega (arith, c .before .before .before .loop-test .taken, types-less (c .before .before .before .before .loop .inv (search) (search)) (c .before .before .before .loop-test .taken) (c .end-of-type .ensures)))
     -- loop-again
     (λ c l x.
     types-on (c .before .before .before .before .loop .inv l x) (c .before .before .before .loop-test .taken) (c .end-of-type .ensures) λ t m w q.

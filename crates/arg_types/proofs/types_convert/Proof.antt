@@ -38,7 +38,7 @@ types-convert-spec =
     types-next (c .before .before .before .before .loop .inv l t x w) (c .before .before .before .loop-test .taken) (c .before .before .end-of-type .ensures) λ u m v q.
     every-no (λ a. converts a t) u m q (c .before .converts-at .ensures u t v w) (not-true (c .before .converts-at .result) (c .if1 .taken)))
     -- loop-less
-    (λ c. let p = c .before .before .before .before .before .before .before .pre in omega (arith, c .before .before .before .loop-test .taken, types-less (c .before .before .before .before .loop .inv (p .0 .types) (p .1 .type) (p .0 .row) (p .1 .stands)) (c .before .before .before .loop-test .taken) (c .before .before .end-of-type .ensures)))
+    (λ c. omega (arith, c .before .before .before .loop-test .taken, types-less (c .before .before .before .before .loop .inv (search) (search) (search) (search)) (c .before .before .before .loop-test .taken) (c .before .before .end-of-type .ensures)))
     -- loop-again
     (λ c l t x w.
     types-on (c .before .before .before .before .loop .inv l t x w) (c .before .before .before .loop-test .taken) (c .before .before .end-of-type .ensures) λ u m v q.

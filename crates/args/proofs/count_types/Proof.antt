@@ -31,34 +31,31 @@ count-types-spec =
     (λ c. let a = c .before .before .before .before .args in let l = c .before .before .loop in left-full tyBytes (TypeArg (a .depth) (a .most)) (a .s .now) (l .i) (l .n) (l .inv) (c .before .loop-test .taken) (omega (arith, c .if1 .taken)))
     (λ c κs. search needs) (λ c. search needs)
     -- sub-if2
-    (λ c. let a = c .before .before .before .before .before .before .before .before .args in let l = c .before .before .before .before .before .before .loop in let f = subst (Told (Ends (a .depth) (a .s .now) (l .i))) (c .before .e .given .1) (c .before .before .before .type-end .ensures) in omega (arith, f .stands .size))
+    (λ c. let l = c .before .before .before .before .before .before .loop in let f = subst (Told (Ends _ _ (l .i))) (c .before .e .given .1) (c .before .before .before .type-end .ensures) in omega (arith, f .stands .size))
     -- returns-2
     (λ c.
-    let a = c .before .before .before .before .before .before .before .before .before .args in
     let l = c .before .before .before .before .before .before .before .loop in
-    let f = subst (Told (Ends (a .depth) (a .s .now) (l .i))) (c .before .before .e .given .1) (c .before .before .before .before .type-end .ensures) in
-    left-bad tyBytes (TypeArg (a .depth) (a .most)) (a .s .now) (l .i) (l .n) (l .inv) (search)
+    let f = subst (Told (Ends _ _ (l .i))) (c .before .before .e .given .1) (c .before .before .before .before .type-end .ensures) in
+    left-bad tyBytes (TypeArg _ _) _ (l .i) (l .n) (l .inv) (search)
     (λ h.
-    let v = type-head (a .depth) (a .most) (a .s .now) (l .i) h in
+    let v = type-head _ _ _ (l .i) h in
     let q : length (tyBytes (v .type)) ≡ length (tyBytes (f .type)) = ap (λ (t : Ty). length (tyBytes t)) (same-type (v .stands) (f .stands)) in
     omega (arith, f .stands .size, v .short, c .if2 .taken)))
     (λ c. search needs)
     -- returns-3
     (λ c.
-    let a = c .before .before .before .before .before .before .before .args in
     let l = c .before .before .before .before .before .loop in
-    let f = subst (Told (Ends (a .depth) (a .s .now) (l .i))) (c .enum-told .given .1) (c .before .before .type-end .ensures) in
-    left-bad tyBytes (TypeArg (a .depth) (a .most)) (a .s .now) (l .i) (l .n) (l .inv) (c .before .before .before .before .loop-test .taken)
-    (λ h. let v = type-head (a .depth) (a .most) (a .s .now) (l .i) h in f _ (record { type = v .type; stands = v .stands })))
+    let f = subst (Told (Ends _ _ (l .i))) (c .enum-told .given .1) (c .before .before .type-end .ensures) in
+    left-bad tyBytes (TypeArg _ _) _ (l .i) (l .n) (l .inv) (c .before .before .before .before .loop-test .taken)
+    (λ h. let v = type-head _ _ _ (l .i) h in f _ (record { type = v .type; stands = v .stands })))
     -- add-n
     (λ c. record { fits = omega arith })
     -- loop-less
     (λ c. omega (arith, c .before .before .before .before .before .if1 .left))
     -- loop-again
     (λ c.
-    let a = c .before .before .before .before .before .before .before .before .before .args in
     let l = c .before .before .before .before .before .before .before .loop in
-    let f = subst (Told (Ends (a .depth) (a .s .now) (l .i))) (c .before .before .e .given .1) (c .before .before .before .before .type-end .ensures) in
-    type-left (a .depth) (a .most) (a .s .now) (l .i) (l .n) (l .inv) (search) (omega (arith, l .inv .few, c .before .before .before .before .before .if1 .left)) (f .type) _ (f .stands) (omega (arith, f .stands .size, c .if2 .left)))
+    let f = subst (Told (Ends _ _ (l .i))) (c .before .before .e .given .1) (c .before .before .before .before .type-end .ensures) in
+    type-left _ _ _ (l .i) (l .n) (l .inv) (search) (omega (arith, l .inv .few, c .before .before .before .before .before .if1 .left)) (f .type) _ (f .stands) (omega (arith, f .stands .size, c .if2 .left)))
     -- returns-4
     (λ c. let a = c .before .before .before .args in let l = c .before .loop in left-none tyBytes (TypeArg (a .depth) (a .most)) (a .s .now) (l .i) (l .n) (l .inv) (c .loop-test .left)))

@@ -16,10 +16,9 @@ qa-of-spec =
     (λ c. search needs) (λ c κs. search needs) (λ c. search needs) (λ c. search needs)
     -- all-fit-requires
     (λ c κs.
-    let p = c .before .before .before .before .before .before .before .before .pre .1 in
     let o = c .before .before .before .before .common-type-of in
-    let f = common-of _ (o .result) (o .last .1 .1 .0) (o .ensures (p .values) (p .given .row)) (c .before .enum-told .given .1) in
-    record { values = _; row = p .given .row; type = f .type; end = _; stands = f .stands; converts = common-to (p .values) (f .type) (f .is) })
+    let f = common-of _ (o .result) (o .last .1 .1 .0) (o .ensures (search) (search)) (c .before .enum-told .given .1) in
+    record { values = _; row = search; type = f .type; end = _; stands = f .stands; converts = common-to (search) (f .type) (f .is) })
     -- returns
     (λ c l g.
     let o = c .before .before .before .before .before .before .common-type-of in

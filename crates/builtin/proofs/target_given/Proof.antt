@@ -19,10 +19,7 @@ target-given-spec =
     (p .0, record { type = m .type; stands = m .stands }, p .2))
     (λ c. search needs)
     -- runtime-given-requires
-    (λ c κs.
-    let p = c .before .before .before .before .before .before .pre in
-    let m = subst (Meant _) (c .before .enum-told2 .given .1) (p .1) in
-    (record { type = m .type; whole = m .stands }, p .2))
+    (λ c κs. let p = c .before .before .before .before .before .before .pre in (subst (Meant _) (c .before .enum-told2 .given .1) (p .1), p .2))
     (λ c. search needs)
     (λ c κs. search needs)
     (λ c. search needs)

@@ -30,7 +30,7 @@ fits-spec =
     -- item-end-requires
     (λ c κs. let p = c .before .before .before .before .before .pre in next-item (c .before .before .before .loop .inv (p .items) (p .stands)) (c .before .before .loop-test .taken))
     -- loop-less
-    (λ c. let p = c .before .before .before .before .before .before .pre in omega (arith, c .before .before .before .loop-test .taken, next-less (c .before .before .before .before .loop .inv (p .items) (p .stands)) (c .before .before .before .loop-test .taken) (c .item-end .ensures)))
+    (λ c. omega (arith, c .before .before .before .loop-test .taken, next-less (c .before .before .before .before .loop .inv (search) (search)) (c .before .before .before .loop-test .taken) (c .item-end .ensures)))
     -- loop-again
     (λ c l w.
     fit-on l (c .before .before .before .before .loop .inv l w) (c .before .before .before .loop-test .taken) (c .before .before .item-fits .ensures) (not-false (c .before .before .item-fits .result) (c .before .if1 .left)) (c .item-end .ensures))

@@ -31,28 +31,24 @@ all-convert-spec =
     -- returns
     (λ c l t e w v. let x = scalar-by v (c .before .before .if1 .taken) in c .literals-fit .ensures l (x .kind) (x .no) w ∙ ap (λ (u : Ty). allFit u l) (sym (x .is)))
     -- sub-others-convert
-    (λ c. let a = c .before .before .before .before .before .before .before .before .args in let f = subst (Told (Ends (a .depth) (a .ty .now) (a .at))) (c .before .before .before .e .given .1) (c .before .before .before .before .before .type-end .ensures) in omega (arith, f .stands .size))
+    (λ c. let f = subst (Told (Ends _ _ _)) (c .before .before .before .e .given .1) (c .before .before .before .before .before .type-end .ensures) in omega (arith, f .stands .size))
     -- part-others-convert-start
-    (λ c. let a = c .before .before .before .before .before .before .before .before .args in let f = subst (Told (Ends (a .depth) (a .ty .now) (a .at))) (c .before .before .before .e .given .1) (c .before .before .before .before .before .type-end .ensures) in omega (arith, f .stands .size))
+    (λ c. let f = subst (Told (Ends _ _ _)) (c .before .before .before .e .given .1) (c .before .before .before .before .before .type-end .ensures) in omega (arith, f .stands .size))
     -- part-others-convert-end
-    (λ c. let a = c .before .before .before .before .before .before .before .before .args in let f = subst (Told (Ends (a .depth) (a .ty .now) (a .at))) (c .before .before .before .e .given .1) (c .before .before .before .before .before .type-end .ensures) in f .stands .within)
+    (λ c. let f = subst (Told (Ends _ _ _)) (c .before .before .before .e .given .1) (c .before .before .before .before .before .type-end .ensures) in f .stands .within)
     -- others-convert-requires
     (λ c κs.
     let p = c .before .before .before .before .before .before .before .before .before .pre in
-    let a = c .before .before .before .before .before .before .before .before .before .args in
-    let f = subst (Told (Ends (a .depth) (a .ty .now) (a .at))) (c .before .before .before .before .e .given .1) (search) in
+    let f = subst (Told (Ends _ _ _)) (c .before .before .before .before .e .given .1) (search) in
     (p .0 .rest, record { type = _; stands = cut-to f (p .1) (f .stands) }))
     -- returns-2
     (λ c l t e w v.
-    let p = c .before .before .before .before .before .before .before .before .before .before .before .pre in
-    let a = c .before .before .before .before .before .before .before .before .before .before .before .args in
-    let f = subst (Told (Ends (a .depth) (a .ty .now) (a .at))) (c .before .before .before .before .before .before .e .given .1) (search) in
-    none-all t l (sym (c .before .others-convert .ensures l t w (cut-to f (p .1) v)) ∙ not-true (c .before .others-convert .result) (c .if2 .taken)))
+    let f = subst (Told (Ends _ _ _)) (c .before .before .before .before .before .before .e .given .1) (search) in
+    none-all t l (sym (c .before .others-convert .ensures l t w (cut-to f (search) v)) ∙ not-true (c .before .others-convert .result) (c .if2 .taken)))
     -- all-fit-requires
     (λ c κs.
     let p = c .before .before .before .before .before .before .before .before .before .before .before .pre in
-    let a = c .before .before .before .before .before .before .before .before .before .before .before .args in
-    let f = subst (Told (Ends (a .depth) (a .ty .now) (a .at))) (c .before .before .before .before .before .before .e .given .1) (search) in
+    let f = subst (Told (Ends _ _ _)) (c .before .before .before .before .before .before .e .given .1) (search) in
     let s = p .0 .to .stands in
     let w = p .0 .rest .row in
     record {

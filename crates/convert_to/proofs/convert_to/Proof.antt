@@ -19,7 +19,7 @@ convert-to-spec =
     (λ c κs. let m = meant _ (λ i. c .before .before .before .before .before .before .shared-slice-known .given i .fits) (sym (c .before .enum-told .given .1) ∙ c .before .before .before .read-target .ensures) in record { type = m .type; stands = m .stands })
     (λ c. search needs)
     -- convert-to-runtime-requires
-    (λ c κs. let m = meant _ (λ i. c .before .before .before .before .before .before .shared-slice-known .given i .fits) (sym (c .before .enum-told2 .given .1) ∙ c .before .before .before .read-target .ensures) in record { type = m .type; whole = m .stands; small = m .good })
+    (λ c κs. meant _ (λ i. c .before .before .before .before .before .before .shared-slice-known .given i .fits) (sym (c .before .enum-told2 .given .1) ∙ c .before .before .before .read-target .ensures))
     (λ c. search needs) (λ c. search needs) (λ c. search needs) (λ c. search needs) (λ c. search needs)
     -- returns
     (λ c. let m = meant _ (λ i. c .before .before .before .before .before .before .before .before .before .shared-slice-known .given i .fits) (sym (c .before .before .before .before .enum-told .given .1) ∙ c .before .before .before .before .before .before .read-target .ensures) in told-as (of-answer _ _ _ (m .reads)) (c .before .before .convert-to-type .ensures (m .type) (m .stands)))

@@ -24,9 +24,8 @@ convert-to-type-spec =
     (λ c. sym (length-take-le _ _ (subst (λ (r : Single). Singles (c .before .before .before .before .before .before .before .before .before .before .args .args .now) r (c .before .before .before .before .before .one-value .last .1 .0)) (c .before .before .q .given .1) (c .before .before .before .before .before .one-value .ensures) .stands .within)))
     -- convert-value-requires
     (λ c κs.
-    let p = c .before .before .before .before .before .before .before .before .before .before .before .pre in
     let f = subst (λ (r : Single). Singles (c .before .before .before .before .before .before .before .before .before .before .before .args .args .now) r (c .before .before .before .before .before .before .one-value .last .1 .0)) (c .before .before .before .q .given .1) (c .before .before .before .before .before .before .one-value .ensures) in
-    record { to = p .type; from = f .value; asked = record { whole = p .stands; value = f .one; type = front-whole (f .stands) } })
+    record { to = search; from = f .value; asked = record { whole = search; value = f .one; type = front-whole (f .stands) } })
     (λ c. search needs) (λ c. search needs)
     -- returns
     (λ c t w.

@@ -19,13 +19,13 @@ mat-others-spec =
     (λ c κs. let p = c .before .before .before .pre .1 in (record { value = p .value; others = p .others; row = p .row }, search needs))
     (λ c. search needs)
     -- goes-down-requires
-    (λ c κs. let p = c .before .before .before .before .before .before .pre .1 in record { type = _; end = _; stands = c .before .before .next-type .ensures (p .value) (p .others) (p .row) .stands })
+    (λ c κs. record { type = _; end = _; stands = c .before .before .next-type .ensures (search) (search) (search) .stands })
     -- returns
     (λ c j v l n w h. builds-no _ 7 (mat-no _ _ j v l (goes-no j _ (sym (not-true (c .before .goes-down .result) (c .if1 .taken)) ∙ c .before .goes-down .ensures j _ _ n (c .before .before .before .before .next-type .ensures v l w .stands)))))
     -- sub-last
-    (λ c. let p = c .before .before .before .before .before .before .before .before .before .pre .1 in omega (arith, type-some (c .before .before .before .before .before .next-type .ensures (p .value) (p .others) (p .row) .stands)))
+    (λ c. omega (arith, type-some (c .before .before .before .before .before .next-type .ensures (search) (search) (search) .stands)))
     -- array-write-ty
-    (λ c. let p = c .before .before .before .before .before .before .before .before .before .pre .1 in let t = c .before .before .before .before .before .next-type .ensures (p .value) (p .others) (p .row) .stands in omega (arith, type-some t, t .within))
+    (λ c. let t = c .before .before .before .before .before .next-type .ensures (search) (search) (search) .stands in omega (arith, type-some t, t .within))
     (λ c. search needs)
     -- mat-to-requires
     (λ c κs.

@@ -30,11 +30,10 @@ all-made-spec =
     (λ c κs. let p = c .before .before .before .before .before .pre in next-item (c .before .before .before .loop .inv (p .items) (p .stands)) (c .before .before .loop-test .taken))
     -- loop-less
     (λ c.
-    let p = c .before .before .before .before .before .before .pre in
     omega (
       arith,
       c .before .before .before .loop-test .taken,
-      next-less (c .before .before .before .before .loop .inv (p .items) (p .stands)) (c .before .before .before .loop-test .taken) (c .item-end .ensures),
+      next-less (c .before .before .before .before .loop .inv (search) (search)) (c .before .before .before .loop-test .taken) (c .item-end .ensures),
     ))
     -- loop-again
     (λ c l w. decide-on l (c .before .before .before .before .loop .inv l w) (c .before .before .before .loop-test .taken) (c .before .before .item-made .ensures) (c .before .if1 .left) (c .item-end .ensures))

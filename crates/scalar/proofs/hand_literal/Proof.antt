@@ -20,8 +20,7 @@ hand-literal-spec =
     (λ c j n g. search handed-long)
     -- put-literal-requires
     (λ c κs.
-    let p = c .before .before .before .before .before .before .before .pre in
-    handed-room (c .before .before .before .before .made .given .1) (p .kind) (p .no) (c .before .before .literal-len .ensures) (c .before .if1 .left))
+    handed-room (c .before .before .before .before .made .given .1) (search) (search) (c .before .before .literal-len .ensures) (c .before .if1 .left))
     (λ c. search needs)
     -- returns-3
     (λ c j n g.

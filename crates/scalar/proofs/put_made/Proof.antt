@@ -34,10 +34,9 @@ put-made-spec =
     (λ c s j a b x w g. absurd (not-refused (rw (literal-made w (c .before .before .if1 .left) x (c .before .made-at .result) (c .before .made-at .ensures) g .1) at (c .match .keys2))))
     -- put-literal-requires
     (λ c κs.
-    let a = c .before .before .before .before .before .before .before .before .before .args in
     let p = c .before .before .before .before .before .before .before .before .before .pre in
     let m = c .before .before .before .before .made-at in
-    literal-room (p .stands) (c .before .before .before .before .before .if1 .left) (p .ctor) (m .result) (m .ensures) (p .goes) (c .before .before .p .given .1) (a .to) (p .room))
+    literal-room (p .stands) (c .before .before .before .before .before .if1 .left) (p .ctor) (m .result) (m .ensures) (p .goes) (c .before .before .p .given .1) _ (p .room))
     -- same-length-2
     (λ c. c .before .before .put-literal .kept .0)
     -- returns-3

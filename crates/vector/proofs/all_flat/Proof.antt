@@ -33,7 +33,7 @@ all-flat-spec =
     -- next-arg-requires
     (λ c κs. let p = c .before .before .before .before .before .pre in args-some (c .before .before .before .loop .inv (p .values) (p .row)) (c .before .before .loop-test .taken))
     -- loop-less
-    (λ c. let p = c .before .before .before .before .before .before .pre in omega (arith, c .before .before .before .loop-test .taken, args-less (c .before .before .before .before .loop .inv (p .values) (p .row)) (c .before .before .before .loop-test .taken) (c .next-arg .ensures)))
+    (λ c. omega (arith, c .before .before .before .loop-test .taken, args-less (c .before .before .before .before .loop .inv (search) (search)) (c .before .before .before .loop-test .taken) (c .next-arg .ensures)))
     -- loop-again
     (λ c l x. flat-on (c .before .before .before .before .loop .inv l x) (c .before .before .before .loop-test .taken) (c .before .before .is-flat .ensures) (not-false (c .before .before .is-flat .result) (c .before .if1 .left)) (c .next-arg .ensures))
     -- returns-2

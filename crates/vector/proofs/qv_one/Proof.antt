@@ -24,16 +24,15 @@ qv-one-spec =
     (λ c. search needs)
     -- returns
     (λ c v x.
-    let a = c .before .before .before .before .before .before .before .before .before .before .args in
     let y = arg-literal x (search) in
     let q = literal-bits y (c .before .before .before .before .payload-at .ensures) in
-    builds-as (a .out .now) (qv-literal (a .n) y q) (c .before .before .repeated .ensures (y .kind) (y .no) (literal-good y q)))
+    builds-as _ (qv-literal _ y q) (c .before .before .repeated .ensures (y .kind) (y .no) (literal-good y q)))
     -- shared-slice-read-if3
     (λ c. omega (arith, arg-front (c .before .before .before .before .before .before .pre .1 .row)))
     -- returns-2
-    (λ c v x. let a = c .before .before .before .before .before .before .before .args in builds-no (a .out .now) 7 (qv-other-length (a .n) (arg-vector x (c .before .before .if2 .taken)) (c .if3 .taken)))
+    (λ c v x. builds-no _ 7 (qv-other-length _ (arg-vector x (c .before .before .if2 .taken)) (c .if3 .taken)))
     (λ c κs. search needs) (λ c. search needs)
     -- returns-3
-    (λ c v x. let a = c .before .before .before .before .before .before .before .before .before .before .before .args in builds-as (a .out .now) (qv-length (a .n) (arg-vector x (search)) (c .before .before .before .before .if3 .left)) (hand-kept x refl (c .before .before .hand .ensures)))
+    (λ c v x. builds-as _ (qv-length _ (arg-vector x (search)) (c .before .before .before .before .if3 .left)) (hand-kept x refl (c .before .before .hand .ensures)))
     -- returns-4
     (λ c v x. search (builds-miscount, qv-other, arg-other)))

@@ -22,20 +22,17 @@ qv-parts-spec =
     (λ c. search needs) (λ c κs. search needs) (λ c. search needs)
     -- array-share-prefix-ty
     (λ c.
-    let p = c .before .before .before .before .before .before .before .before .before .before .pre .1 in
     let o = c .before .before .before .before .common-type-of in
-    common-of _ (o .result) (o .last .1 .1 .0) (o .ensures (p .values) (p .row)) (c .before .q .given .1) .stands .within)
+    common-of _ (o .result) (o .last .1 .1 .0) (o .ensures (search) (search)) (c .before .q .given .1) .stands .within)
     -- slice-aggregate-to-common
     (λ c.
-    let p = c .before .before .before .before .before .before .before .before .before .before .before .pre .1 in
     let o = c .before .before .before .before .before .common-type-of in
-    sym (length-take-le _ _ (common-of _ (o .result) (o .last .1 .1 .0) (o .ensures (p .values) (p .row)) (c .before .before .q .given .1) .stands .within)))
+    sym (length-take-le _ _ (common-of _ (o .result) (o .last .1 .1 .0) (o .ensures (search) (search)) (c .before .before .q .given .1) .stands .within)))
     -- to-common-requires
     (λ c κs.
-    let p = c .before .before .before .before .before .before .before .before .before .before .before .before .pre .1 in
     let o = c .before .before .before .before .before .before .common-type-of in
-    let f = common-of _ (o .result) (o .last .1 .1 .0) (o .ensures (p .values) (p .row)) (c .before .before .before .q .given .1) in
-    record { values = p .values; type = f .type; common = in-common (p .row) f (c .before .before .before .before .before .before .before .before .before .flat-count .ensures _ (p .row)) (search) })
+    let f = common-of _ (o .result) (o .last .1 .1 .0) (o .ensures (search) (search)) (c .before .before .before .q .given .1) in
+    record { values = search; type = f .type; common = in-common (search) f (c .before .before .before .before .before .before .before .before .before .flat-count .ensures _ (search)) (search) })
     (λ c. search needs) (λ c. search needs)
     -- returns-2
     (λ c l x.
@@ -44,7 +41,6 @@ qv-parts-spec =
     c .before .before .to-common .ensures l (f .type) (in-common x f (c .before .before .before .before .before .before .before .before .before .before .before .before .flat-count .ensures l x) (search)))
     -- returns-3
     (λ c l x.
-    let a = c .before .before .before .before .before .before .before .before .before .args in
     let m = c .before .before .before .before .before .before .flat-count in
     let o = c .before .before .before .common-type-of in
-    builds-no (a .out .now) 10 (qv-never (a .n) (m .result) (flattened l) (c .before .before .before .before .before .if1 .left) (m .ensures l x) (common-none _ (o .result) (o .last .1 .1 .0) (o .ensures l x) (c .enum-told .given .1)))))
+    builds-no _ 10 (qv-never _ (m .result) (flattened l) (c .before .before .before .before .before .if1 .left) (m .ensures l x) (common-none _ (o .result) (o .last .1 .1 .0) (o .ensures l x) (c .enum-told .given .1)))))

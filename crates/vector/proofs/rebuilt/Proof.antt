@@ -22,8 +22,7 @@ rebuilt-spec =
     (λ c κs. search needs)
     -- returns-2
     (λ c s j v a e x.
-    let b = c .before .before .before .before .before .before .args in
-    builds-no (b .out .now) 12 (vec-abstract (arg-vector x (search)) s (b .n) j (c .before .before .if1 .left) (sym (abstract-is j e (c .before .is-abstract .ensures)) ∙ c .if2 .taken)))
+    builds-no _ 12 (vec-abstract (arg-vector x (search)) s _ j (c .before .before .if1 .left) (sym (abstract-is j e (c .before .is-abstract .ensures)) ∙ c .if2 .taken)))
     -- all-made-requires
     (λ c κs.
     let p = c .before .before .before .before .before .before .pre in
@@ -31,16 +30,14 @@ rebuilt-spec =
     vector-items x (arg-vector x (p .1 .1 .1)) (p .0 .stage) (p .1 .0 .kind))
     -- returns-3
     (λ c s j v a e x.
-    let b = c .before .before .before .before .before .before .before .before .args in
-    let t : Ctor (b .rules) (b .k) s j = record { ruled = a; no = e; concrete = concrete j e (c .before .before .before .is-abstract .ensures) (c .before .before .if2 .left) } in
-    builds-no (b .out .now) (c .before .all-made .result) (made-no x (arg-vector x (search)) (c .before .before .before .before .if1 .left) t (c .before .all-made .ensures) (c .if3 .taken)))
+    let t : Ctor _ _ s j = record { ruled = a; no = e; concrete = concrete j e (c .before .before .before .is-abstract .ensures) (c .before .before .if2 .left) } in
+    builds-no _ (c .before .all-made .result) (made-no x (arg-vector x (search)) (c .before .before .before .before .if1 .left) t (c .before .all-made .ensures) (c .if3 .taken)))
     (λ c κs. search needs)
     -- returns-4
     (λ c s j v a e x.
-    let b = c .before .before .before .before .before .before .before .before .before .before .args in
-    let t : Ctor (b .rules) (b .k) s j = record { ruled = a; no = e; concrete = concrete j e (c .before .before .before .before .before .is-abstract .ensures) (c .before .before .before .before .if2 .left) } in
+    let t : Ctor _ _ s j = record { ruled = a; no = e; concrete = concrete j e (c .before .before .before .before .before .is-abstract .ensures) (c .before .before .before .before .if2 .left) } in
     let y = remade x (arg-vector x (search)) (search) t (c .before .before .before .all-made .ensures) (c .before .before .if3 .left) in
-    builds-as (b .out .now) (y .is) (vector-long (b .n) (c .before .vector-len .ensures) j e (y .pays) (y .count) (y .good) (b .out .now) (c .if4 .taken)))
+    builds-as _ (y .is) (vector-long _ (c .before .vector-len .ensures) j e (y .pays) (y .count) (y .good) _ (c .if4 .taken)))
     -- write-made-requires
     (λ c κs.
     let b = c .before .before .before .before .before .before .before .before .before .before .before .args in

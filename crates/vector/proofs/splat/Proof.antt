@@ -21,14 +21,12 @@ splat-spec =
     (λ c. search needs) (λ c. search needs)
     -- returns
     (λ c s j v e x.
-    let a = c .before .before .before .before .before .before .before .before .before .before .before .before .args in
     let y = arg-literal x (search) in
     let q = literal-bits y (search) in
     let h = c .before .before .before .before .before .before .before .convert-literal .ensures in
     let g = c .before .before .before .before .before .p .given .1 in
-    builds-as (a .out .now) (vec-splat y j e q h g s (a .n)) (c .before .before .repeated .ensures j e (splat-in y j e q h g)))
+    builds-as _ (vec-splat y j e q h g s _) (c .before .before .repeated .ensures j e (splat-in y j e q h g)))
     -- returns-2
     (λ c s j v e x.
-    let a = c .before .before .before .before .before .before .before .args in
     let y = arg-literal x (search) in
-    builds-no (a .out .now) 9 (vec-unfit y j e (literal-bits y (c .before .before .before .payload-at .ensures)) (c .before .before .convert-literal .ensures) (c .enum-told .given .1) s (a .n))))
+    builds-no _ 9 (vec-unfit y j e (literal-bits y (c .before .before .before .payload-at .ensures)) (c .before .before .convert-literal .ensures) (c .enum-told .given .1) s _)))

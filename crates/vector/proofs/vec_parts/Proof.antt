@@ -24,9 +24,8 @@ vec-parts-spec =
     (λ c κs. search needs)
     -- returns-2
     (λ c j l e x.
-    let a = c .before .before .before .before .before .before .args in
     let m = c .before .before .before .flat-count in
-    builds-no (a .out .now) 9 (vec-none (a .n) (m .result) j (flattened l) (c .before .before .if1 .left) (m .ensures l x)
+    builds-no _ 9 (vec-none _ (m .result) j (flattened l) (c .before .before .if1 .left) (m .ensures l x)
     (other-none j l (sym (c .before .all-flat .ensures l x) ∙ not-true (c .before .all-flat .result) (c .if2 .taken)))))
     -- fits-requires
     (λ c κs.
@@ -35,10 +34,9 @@ vec-parts-spec =
     flat-items (p .1 .0 .kind) x (subst T (sym (not-false (c .before .all-flat .result) (c .if2 .left)) ∙ c .before .all-flat .ensures _ x) tt))
     -- returns-3
     (λ c j l e x.
-    let a = c .before .before .before .before .before .before .before .before .args in
     let m = c .before .before .before .before .before .flat-count in
     let f = subst T (sym (not-false (c .before .before .before .all-flat .result) (c .before .before .if2 .left)) ∙ c .before .before .before .all-flat .ensures l x) tt in
-    builds-no (a .out .now) 9 (vec-none (a .n) (m .result) j (flattened l) (c .before .before .before .before .if1 .left) (m .ensures l x)
+    builds-no _ 9 (vec-none _ (m .result) j (flattened l) (c .before .before .before .before .if1 .left) (m .ensures l x)
     (fits-none j x f e (c .before .fits2 .ensures) (not-true (c .before .fits2 .result) (c .if3 .taken)))))
     -- write-parts-requires
     (λ c κs.
@@ -54,9 +52,8 @@ vec-parts-spec =
     (λ c. search needs)
     -- returns-4
     (λ c j l e x.
-    let a = c .before .before .before .before .before .before .before .before .before .before .before .before .args in
     let m = c .before .before .before .before .before .before .before .before .before .flat-count in
     let f = subst T (sym (not-false _ (search)) ∙ c .before .before .before .before .before .before .before .all-flat .ensures l x) tt in
     let g = fits-goes j x f e (c .before .before .before .before .before .fits2 .ensures) (not-false (c .before .before .before .before .before .fits2 .result) (c .before .before .before .before .if3 .left)) in
-    builds-as (a .out .now) (vec-some (a .n) (m .result) j (flattened l) (search) (m .ensures l x) (g .0) (g .1 .goes))
+    builds-as _ (vec-some _ (m .result) j (flattened l) (search) (m .ensures l x) (g .0) (g .1 .goes))
     (c .before .before .write-parts .ensures j l (g .0) e (g .1) (some-length (payTo j) (flattened l) (g .0) (g .1 .goes) ∙ (sym (m .ensures l x) ∙ c .before .before .before .before .before .before .before .before .if1 .left)))))
