@@ -134,6 +134,10 @@ pub fn all_fit(args: &[u8], from: usize, ty: &[u8], at: usize, depth: u8) -> boo
     requires { ⌜ AskedFit (now args) from depth (now ty) at ⌝ }
     ensures { λ r. ⌜ AllConvert (now (args .entry)) from depth (now (ty .entry)) at r ⌝ }
 {
+    // to a scalar there are literals alone
+    if ty[at + 1] == b's' {
+        return literals_fit(args, from, ty[at + 2]);
+    }
     match ty::leaf_at(ty, at, depth) {
         Leaf::Kind(k) => conv::fits(args, from, args.len(), k),
         Leaf::Struct => true,
