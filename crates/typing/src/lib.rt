@@ -101,7 +101,7 @@ fn answer_array(args: &[u8], n: usize, out: &mut [u8]) -> Written
 // ---- the target and the arguments are read
 
 // By the target. A runtime-sized array is "16 typing only: `Tr` ..".
-fn target_given(found: Target, target: &[u8], args: &[u8], count: usize, out: &mut [u8]) -> Written
+fn answer_target(found: Target, target: &[u8], args: &[u8], count: usize, out: &mut [u8]) -> Written
     requires { ⌜ Meant (now target) found × SomeGiven (now args) count ⌝ }
     ensures { λ x. ⌜ TargetAnswers (now (target .entry)) (now (args .entry)) count (now (out .entry)) x (now (out .exit)) ⌝ }
 {
@@ -132,7 +132,7 @@ pub fn type_ctor(target: &[u8], args: &[u8], out: &mut [u8]) -> Written
         return Written::Refused(Refusal::BAD_TARGET);
     }
     match args::type_args(args, found) {
-        Args::Count(n) => target_given(found, target, args, n, out),
+        Args::Count(n) => answer_target(found, target, args, n, out),
         Args::Bad => Written::Refused(Refusal::BAD_ARGUMENT),
     }
 }

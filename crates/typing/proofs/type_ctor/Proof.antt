@@ -17,7 +17,7 @@ type-ctor-spec =
     -- returns
     (λ c. refused 1 _ (no-target _ _ _ (bad-target _ (c .before .before .read-target .ensures) (sym (c .before .is-bad .ensures) ∙ c .if1 .taken))))
     (λ c κs. search needs) (λ c. search needs)
-    -- target-given-requires
+    -- answer-target-requires
     (λ c κs.
     let v = c .before .before .before .before in
     let t = v .before .before .before in
@@ -32,7 +32,7 @@ type-ctor-spec =
     let t = v .before .before .before in
     let a = t .before .before .before .before .args in
     let x = both-read readTys (a .target .now) (a .args .now) (t .read-target .ensures) (sym (v .before .before .is-bad .ensures) ∙ v .before .if1 .left) (v .type-args .ensures) (c .before .before .before .before .before .n .given .1) in
-    read-types _ _ x (c .before .before .target-given .ensures (x .items) (read-given _ (λ i. t .before .before .shared-slice-known2 .given i .fits) x)))
+    read-types _ _ x (c .before .before .answer-target .ensures (x .items) (read-given _ (λ i. t .before .before .shared-slice-known2 .given i .fits) x)))
     -- returns-3
     (λ c.
     let v = c .before .before in

@@ -5,11 +5,11 @@ use Rattle.meaning.specs.Trees.{Of, Qv, Qm}
 use Rattle.meaning.specs.Typing.{typed}
 use Rattle.ty.specs.Targets.{Meant}
 use Rattle.typing.proofs.TypingAnswers.{types-as, answer-no, type-whole, target-none, target-runtime, target-types}
-use Rattle.typing.proofs.target_given.Statement.{statement}
-use Rattle.typing.proofs.target_given.Tie as tie
+use Rattle.typing.proofs.answer_target.Statement.{statement}
+use Rattle.typing.proofs.answer_target.Tie as tie
 
-pub target-given-spec : {M : Type 1} → statement M
-target-given-spec =
+pub answer-target-spec : {M : Type 1} → statement M
+answer-target-spec =
     tie.close
     (tie.spec
     (λ c. search needs)
