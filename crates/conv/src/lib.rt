@@ -75,7 +75,8 @@ fn kinds_from(from: u8) -> u8
     }
 }
 
-// Whether a scalar of the one kind converts to the other: where there is a rank, told without it and without a branch, since every literal of a list is asked.
+// Whether a scalar of the one kind converts to the other: where there is a rank, told by one bit and not by a branch for each kind, since every literal of a list is
+// asked.
 pub fn kind_converts(from: u8, to: u8) -> bool
     ensures { λ r. ⌜ KindConverts from to r ⌝ }
 {
