@@ -8,14 +8,10 @@
  * Prints counts by entry and answer and by check, and the first ten calls against a check as hex (entry, stage, target, arguments, length of the buffer, answer); exits 1
  * where there is one.
  */
-#include <setjmp.h>
-#include <signal.h>
-#include <sys/mman.h>
-#include <unistd.h>
-
 #include "records.h"
 #include "reader.h"
 #include "damage.h"
+#include "guarded.h"
 
 enum check { ENDS, KEEPS, REFUSED, RECORD, TYPE, FORMED, NUMBER, COUNTS, LENGTH, AGAIN, EXACT, CHECKS };
 #include "planted.h"
@@ -40,28 +36,17 @@ static void (*spoil)(struct made_call);
 
 /* ---- where the bytes of a call lie ---- */
 
-/* a region between two pages that may not be touched, or the block of one call */
-static struct { uint8_t *low, *high, *block; } lent[3];
+/* regions between forbidden pages, or the blocks of one call */
+enum { TARGET, ARGS, OUT, PLACES };
+static uint8_t *block[PLACES];
 static int blocks;
-enum { TARGET, ARGS, OUT };
 
-static void make_regions(void)
-{
-    size_t page = (size_t)sysconf(_SC_PAGESIZE), room = (MOST + GUARD + page - 1) / page * page;
-    for (int i = 0; i < 3; i++) {
-        uint8_t *all = mmap(0, room + 2 * page, PROT_NONE, MAP_PRIVATE | MAP_ANONYMOUS, -1, 0);
-        if (all == MAP_FAILED || mprotect(all + page, room, PROT_READ | PROT_WRITE)) { perror("mmap"); exit(2); }
-        lent[i].low = all + page, lent[i].high = all + page + room;
-    }
-}
-
-/* n bytes that end at a forbidden page, or begin behind one */
 static uint8_t *place(int which, size_t n, int ends)
 {
-    if (!blocks) return ends ? lent[which].high - n : lent[which].low;
-    free(lent[which].block);
-    if (!(lent[which].block = malloc(n))) { fprintf(stderr, "no memory\n"); exit(2); }
-    return lent[which].block;
+    if (!blocks) return beside_page(which, n, ends);
+    free(block[which]);
+    if (!(block[which] = malloc(n))) { fprintf(stderr, "no memory\n"); exit(2); }
+    return block[which];
 }
 
 /* what a buffer holds before the call: drawn bytes, the guard on the side where no forbidden page is among them */
@@ -100,24 +85,6 @@ static void hold(enum check check, int good, const struct call *c, size_t room, 
 {
     held[check]++;
     if (!good) fault(check, c, room, r);
-}
-
-/* a signal inside the library comes back to the call; one outside it ends the program */
-static sigjmp_buf back;
-static volatile sig_atomic_t inside;
-static void caught(int signal_number)
-{
-    if (inside) siglongjmp(back, 1);
-    signal(signal_number, SIG_DFL);
-    raise(signal_number);
-}
-
-static void catch_signals(void)
-{
-    static uint8_t stack[1 << 16];
-    sigaltstack(&(stack_t){.ss_sp = stack, .ss_size = sizeof stack}, 0);
-    struct sigaction action = {.sa_handler = caught, .sa_flags = SA_NODEFER | SA_ONSTACK};
-    for (size_t i = 0; i < 6; i++) sigaction((int[]){SIGSEGV, SIGBUS, SIGFPE, SIGILL, SIGTRAP, SIGALRM}[i], &action, 0);
 }
 
 /* the bytes of an accepted record */
@@ -276,8 +243,6 @@ static size_t room_for(const struct reading *read)
     }
 }
 
-static int same(struct vireo_answer x, struct vireo_answer y) { return x.refusal == y.refusal && x.value == y.value && x.wanted == y.wanted && x.given == y.given; }
-
 /* the call again, its bytes on the other side of their pages, or with a buffer that was never written */
 static void try_again(const struct call *c, size_t room, int ends, struct vireo_answer first, const uint8_t *record)
 {
@@ -319,19 +284,6 @@ static void try_call(const struct call *c)
     if (written(c, r) || (r.refusal == 22 && read.length <= MOST)) try_exact(c, r.refusal ? (size_t)read.length : r.value, ends, r, record);
 }
 
-/* a line on standard error each second on a terminal, else every ten seconds; the alarm ends a call that does not end */
-static void progress(uint64_t done, uint64_t calls, double start)
-{
-    static double last;
-    double t = now();
-    int terminal = isatty(2);
-    alarm(60);
-    if (!last) last = start;
-    if (t - last < (terminal ? 1 : 10)) return;
-    last = t;
-    fprintf(stderr, terminal ? "\r%" PRIu64 " of %" PRIu64 " calls" : "%" PRIu64 " of %" PRIu64 " calls\n", done, calls);
-}
-
 static void print_answers(void)
 {
     for (int e = 0; e < ENTRIES; e++) {
@@ -362,12 +314,11 @@ static void run(uint64_t calls, uint64_t seed)
     struct call c;
     state = seed;
     for (uint64_t i = 0; i < calls; i++) {
-        if (i % 1024 == 0) progress(i, calls, start);
+        if (i % 1024 == 0) progress(i, calls, "calls", start);
         next_call(&c);
         try_call(&c);
     }
-    alarm(0);
-    if (isatty(2)) fprintf(stderr, "\r%60s\r", "");
+    end_progress();
 }
 
 /* each planted fault must be noticed by its check */
@@ -409,7 +360,7 @@ int main(int argc, char **argv)
     uint64_t calls = strtoull(argv[1], 0, 10), seed = strtoull(argv[2], 0, 10);
     read_lists(stdin);
     if (!listed || !calls) { fprintf(stderr, "no lists or no calls\n"); return 2; }
-    if (!blocks) make_regions();
+    if (!blocks) make_regions(PLACES, MOST + GUARD);
     for (size_t i = 0; i < sizeof before; i++) before[i] = (uint8_t)draw();
     read_rules();
     catch_signals();

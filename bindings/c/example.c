@@ -1,7 +1,9 @@
-/* The printed case of document 01: vec2<f32> of the AbstractInt 1, at stage Const, and the same as `i32` arrays with too few elements.
+/* The printed case of document 01: vec2<f32> of the AbstractInt 1, at stage Const, and the same as `i32` arrays with too few elements; then a small route in one call:
+ * bore, chainage and valve offsets, and an array that is a valve short, which is refused and does not stop the others.
  * gcc -I bindings/c -o example bindings/c/example.c target/staticlib/libvireodesk.a */
 #include <inttypes.h>
 #include <stdio.h>
+#include <string.h>
 
 #include "vireodesk.h"
 
@@ -16,6 +18,54 @@ static void show(struct vireo_answer answer, const uint8_t *out)
     }
 }
 
+/* the slice that the route's jobs have their parts in: each record is put behind the earlier ones */
+static uint8_t bytes[256];
+static size_t bytes_len;
+
+static struct vireo_part put(const void *record, size_t len)
+{
+    struct vireo_part part = {bytes_len, len};
+    memcpy(bytes + bytes_len, record, len);
+    bytes_len += len;
+    return part;
+}
+
+/* numbers of metres as AbstractFloat, one after another: a list of arguments */
+static struct vireo_part metres(const double *numbers, size_t count)
+{
+    struct vireo_part all = {bytes_len, 0};
+    for (size_t i = 0; i < count; i++) {
+        uint8_t literal[11] = {'V', 's', 2};
+        uint64_t bits;
+        memcpy(&bits, &numbers[i], sizeof bits);
+        for (int b = 0; b < 8; b++) literal[3 + b] = (uint8_t)(bits >> 8 * b);
+        all.len += put(literal, sizeof literal).len;
+    }
+    return all;
+}
+
+static void route(void)
+{
+    const struct vireo_part f32 = put("Ts\5", 3), vec3 = put("Tv\3Ts\5", 6), array3 = put("Ta\3\0Ts\5", 7);
+    const struct vireo_part bore = metres((const double[]){0.508}, 1), chainage = metres((const double[]){0, 6204.75, 12410}, 3);
+    const struct vireo_part valves = metres((const double[]){1180.5, 4400.25, 9031}, 3), two_valves = {valves.start, 2 * 11};
+    static const char *const names[] = {"bore", "chainage", "two valves of three", "valves"};
+    struct vireo_job jobs[] = {
+        {.target = f32, .args = bore, .stage = VIREO_CONST},
+        {.target = vec3, .args = chainage, .stage = VIREO_CONST},
+        {.target = array3, .args = two_valves, .stage = VIREO_CONST},
+        {.target = array3, .args = valves, .stage = VIREO_CONST},
+    };
+    uint8_t out[128];
+    struct vireo_answer whole = vireo_call_batch(bytes, bytes_len, jobs, sizeof jobs / sizeof *jobs, out, sizeof out);
+    printf("route %" PRIu64 " %" PRIu64 "\n", whole.refusal, whole.value);
+    if (whole.refusal) return; /* then the list holds no answers */
+    for (size_t i = 0; i < sizeof jobs / sizeof *jobs; i++) {
+        printf("%s at %zu: ", names[i], jobs[i].at);
+        show(jobs[i].answer, out + jobs[i].at);
+    }
+}
+
 int main(void)
 {
     const uint8_t vec2[] = {'T', 'v', 2, 'T', 's', 5}, one[] = {'V', 's', 1, 1, 0, 0, 0, 0, 0, 0, 0};
@@ -23,5 +73,6 @@ int main(void)
     uint8_t out[64];
     show(vireo_call_ctor(VIREO_CONST, vec2, sizeof vec2, one, sizeof one, out, sizeof out), out);
     show(vireo_call_ctor(VIREO_CONST, array3, sizeof array3, one, sizeof one, out, sizeof out), out);
+    route();
     return 0;
 }

@@ -2,16 +2,18 @@
  *
  * What is promised of every function here, for every input, and proved (docs/TRUST.md):
  * - Nothing is asked of the bytes. Target and arguments may be anything, of any length, also none; a malformed target is refusal 1, malformed arguments are 2.
- * - The answer is one whole record (or a rank), or one numbered refusal. Which one, the definitions say: crates/meaning/specs/Entries.antt, by document 01.
- * - A refusal leaves the lent buffer as it was. A record fills the front of it, `value` bytes, and every byte past that is as it was.
- * - The call always ends, reads only the slices it is given, writes only the lent buffer, keeps nothing, and allocates nothing.
- * What the caller owes is C's: each pointer is to as many bytes as its length says (with length 0 any pointer that is not null will do), and the lent buffer overlaps
- * neither target nor arguments.
+ * - The answer is one whole record (or a rank), or one numbered refusal; a batch has one for each job. Which one, the definitions say:
+ *   crates/meaning/specs/Entries.antt, by document 01.
+ * - A refusal leaves the lent buffer as it was. What is accepted fills the front of it, `value` bytes, and every byte past that is as it was.
+ * - The call always ends, reads only the slices it is given, writes only the lent buffer (a batch also the answers in its list), keeps nothing, and allocates nothing.
+ * What the caller owes is C's: each pointer is to as many bytes, or jobs, as its length says (with length 0 any pointer that is not null and is aligned will do), and the
+ * lent buffer overlaps neither target nor arguments, nor the slice of a batch; a batch's list overlaps neither slice nor buffer.
  *
  * Refusals: 1 bad target record; 2 bad argument; 3 stage over 2; 4 not constructible; 5 scalar with two or more arguments; 6 scalar given a non-scalar; 7 shape or type
  * mismatch; 8 count (`wanted` and `given` say which); 9 doesn't convert; 10 no common type, or a component that doesn't convert; 11 arguments needed; 12 vector part not
  * scalar; 13 floats needed; 14 column length; 15 integer outside i32 or u32; 16 typing only: a runtime-sized array, or an abstract vector type; 21 outside the float's
- * range because the stage is Const; 22 the accepted record is longer than the lent buffer.
+ * range because the stage is Const; 22 the accepted record is longer than the lent buffer; of a whole batch: 23 more than 256 jobs; 24 a job's part reaches outside the
+ * slice, or is empty and begins past its end.
  */
 #ifndef VIREODESK_H
 #define VIREODESK_H
@@ -24,7 +26,7 @@ extern "C" {
 #endif
 
 /* refusal: 0 where the call was accepted, else the refusal's number.
- * value: the record's length, or the rank; 0 where the call was refused.
+ * value: the record's length, the rank, or for a whole batch how many bytes were written in all; 0 where the call was refused.
  * wanted, given: the two counts of refusal 8; 0 otherwise. */
 struct vireo_answer {
     uint64_t refusal, value, wanted, given;
@@ -46,6 +48,28 @@ struct vireo_answer vireo_convert_to(const uint8_t *target, size_t target_len, c
 
 /* The rank of that conversion, for the one type that the arguments are. Refusals: 1, 2, 9. Nothing is written. */
 struct vireo_answer vireo_conversion_rank(const uint8_t *target, size_t target_len, const uint8_t *args, size_t args_len);
+
+/* a part of a lent slice: where it begins, counted from the slice's first byte, and how long it is */
+struct vireo_part {
+    size_t start, len;
+};
+
+/* One call of vireo_call_ctor in a batch: its target and its arguments as parts of the lent slice, and its stage. Jobs may share parts, and parts may overlap.
+ * answer, at: set by vireo_call_batch; what they held before makes no difference. */
+struct vireo_job {
+    struct vireo_part target, args;
+    uint8_t stage;
+    struct vireo_answer answer; /* what vireo_call_ctor answers */
+    size_t at;                  /* where its record begins in the lent buffer; for a refused job, where the next record may begin */
+};
+
+/* Building a whole list of jobs over one slice. The call is accepted, with no jobs too, or refused as a whole: 23 where there are more than 256 jobs, else 24 where the
+ * target or the arguments of some job are no part of the slice: start + len, as a whole number that never wraps, is more than bytes_len. So an empty part may begin
+ * at the slice's end. A refused call writes nothing: no byte of the buffer, nothing in the list.
+ * In an accepted one each job, in order, gets the answer that vireo_call_ctor alone gives on its stage, its two parts, and what is left of the buffer at its turn:
+ * out + at, out_len - at. A record moves the place on by its length, so that the records lie one after another from the front; a refused job writes nothing and the
+ * next goes on, after a 22 too. Target, arguments and stage in the list are as they were. `value` is how many bytes the records take together. */
+struct vireo_answer vireo_call_batch(const uint8_t *bytes, size_t bytes_len, struct vireo_job *jobs, size_t jobs_len, uint8_t *out, size_t out_len);
 
 #ifdef __cplusplus
 }

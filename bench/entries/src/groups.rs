@@ -47,6 +47,15 @@ const SIZES: [usize; 3] = [600, 6_000, 60_000];
 pub const PLOTTED: &str = "call_ctor array of N mixed literals";
 const SMALL_SIZES: [usize; 2] = [6, 60];
 
+/// The groups that are also timed as a route, and their names then: constants of all sorts, and short ones, where what a job adds tells most.
+const ROUTES: [(&str, &str); 2] = [
+    ("call_ctor a route of 200 constants", "call_batch a route of 200 constants"),
+    ("call_ctor f32 of one literal", "call_batch a route of 200 times f32"),
+];
+
+/// How many constants a route has.
+const CONSTANTS: usize = 200;
+
 /// All groups, the same in every run.
 pub fn groups() -> Vec<Group> {
     let mut route = Route(Prng::new(1));
@@ -56,6 +65,20 @@ pub fn groups() -> Vec<Group> {
     let values = building.iter().map(|(name, jobs)| group(format!("call_ctor {name}"), jobs, Job::build));
     let array_types = arrays.iter().filter(|a| SIZES.contains(&a.literals())).map(Array::typing);
     values.chain(arrays.iter().map(Array::build)).chain(conversions).chain(types).chain(array_types).collect()
+}
+
+/// The routes among them: calls that are timed in one.
+pub fn routes(groups: &[Group]) -> Vec<Group> {
+    let calls = |name| groups.iter().filter(move |g| g.name == name).flat_map(|g| &g.calls);
+    let route = |(of, name): (_, &str)| Group {
+        name: name.to_string(),
+        calls: calls(of).take(CONSTANTS).cloned().collect(),
+        unit: "constant",
+        units: CONSTANTS,
+        size: None,
+        plain: None,
+    };
+    ROUTES.map(route).into()
 }
 
 /// A number with commas between the thousands.

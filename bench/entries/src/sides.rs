@@ -15,17 +15,17 @@ pub const NAMES: [&str; 4] = ["library", "Rust, records", "Rust, call", "C loop"
 /// What the names mean.
 pub const MEANING: &str = "Rust, records: from records to records (it decodes, calls, encodes); Rust, call: its call alone on decoded arguments";
 
-/// Longer than every record of the groups.
-const ROOM: usize = 1 << 20;
+/// Longer than every record of the groups, and than all records of a route.
+pub const ROOM: usize = 1 << 20;
 
 /// What a buffer holds before a call whose answer is compared, so that a side that writes nothing does not pass by what another left there.
-const FILL: u8 = 0xa5;
+pub const FILL: u8 = 0xa5;
 
 /// One pass over a group's calls by one side.
 pub type Pass<'a> = Box<dyn FnMut() + 'a>;
 
 /// The library on one call: the record's length.
-fn library(call: &Call, out: &mut [u8]) -> Result<usize, Refusal> {
+pub fn library(call: &Call, out: &mut [u8]) -> Result<usize, Refusal> {
     match call.entry {
         Entry::CallCtor => call_ctor_bytes(call.stage, &call.target, &call.args, out),
         Entry::TypeCtor => type_ctor_bytes(&call.target, &call.args, out),

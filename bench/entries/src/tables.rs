@@ -5,7 +5,7 @@ use crate::{
     sides,
 };
 
-/// A group and nanoseconds of one pass by each side, in the order of `sides::NAMES`.
+/// A group and nanoseconds of one pass by each side, in the order of their names.
 pub struct Measured<'a> {
     pub group: &'a Group,
     pub ns: Vec<f64>,
@@ -21,17 +21,17 @@ impl Measured<'_> {
     }
 }
 
-/// Times, and how many times as fast as each other side the library is.
-pub fn times(all: &[Measured]) -> String {
+/// Times, and how many times as fast as each other side the first is. Nothing without groups.
+pub fn times(names: [&str; 4], all: &[Measured]) -> Option<String> {
     let mut head = vec!["group".to_string(), "ns a".to_string()];
-    head.extend(sides::NAMES.map(String::from));
-    head.extend(sides::NAMES[1..].iter().map(|name| format!("{name} / library")));
+    head.extend(names.map(String::from));
+    head.extend(names[1..].iter().map(|name| format!("{name} / {}", names[0])));
     let rows = all.iter().map(|m| {
-        let times = (0..sides::NAMES.len()).map(|side| told(m.of_a_unit(side)));
-        let ratios = (1..sides::NAMES.len()).map(|side| told(m.ns.get(side).map(|ns| ns / m.ns[0])));
+        let times = (0..names.len()).map(|side| told(m.of_a_unit(side)));
+        let ratios = (1..names.len()).map(|side| told(m.ns.get(side).map(|ns| ns / m.ns[0])));
         [m.group.name.clone(), m.group.unit.to_string()].into_iter().chain(times).chain(ratios).collect()
     });
-    table(head, rows.collect())
+    (!all.is_empty()).then(|| table(head, rows.collect()))
 }
 
 /// How many times as long a call takes with more literals.

@@ -2,7 +2,7 @@
 //!
 //! They and what they call are inline, so that a caller in another crate pays for the C entry alone.
 
-use crate::{ffi, refusal::judged, Refusal};
+use crate::{ffi, refusal::judged, Job, Refusal};
 
 /// Building: what the target's constructor makes of the value records in `args`, at stage 0, 1 or 2. Gives the length of the value record at the
 /// front of `out`; the bytes past it stay as they were, and a refusal leaves all of `out` as it was.
@@ -31,4 +31,15 @@ pub fn convert_to_bytes(target: &[u8], args: &[u8], out: &mut [u8]) -> Result<us
 #[inline]
 pub fn conversion_rank_bytes(target: &[u8], args: &[u8]) -> Result<u64, Refusal> {
     judged(ffi::conversion_rank(target, args))
+}
+
+/// Building, a whole list of jobs in one call. Each in its turn is answered as [`call_ctor_bytes`] answers it alone with what is left of `out`, and
+/// [`Job::result`] gives its answer: records come one after another from the front of `out`, and a refused job writes nothing. Gives how many bytes
+/// were written; those past them stay as they were.
+///
+/// Refused as a whole are more than [`MOST_JOBS`](crate::MOST_JOBS) jobs (23), else a job with a part outside `bytes` (24). Then `out` and all jobs,
+/// with the answers that they had, stay as they were.
+#[inline]
+pub fn call_batch_bytes(bytes: &[u8], jobs: &mut [Job], out: &mut [u8]) -> Result<usize, Refusal> {
+    judged(ffi::call_batch(bytes, jobs, out)).map(|length| length as usize)
 }

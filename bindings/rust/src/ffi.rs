@@ -1,12 +1,15 @@
-//! The four C entries (bindings/c/vireodesk.h). All unsafe code of the crate is here.
+//! The five C entries (bindings/c/vireodesk.h). All unsafe code of the crate is here.
 //!
-//! What C asks of its caller is that each pointer is to as many bytes as its length says (not null where that is 0), and that the lent buffer
-//! overlaps neither target nor arguments. The functions of this module take slices, which give the first; a mutable borrow beside shared ones
-//! gives the second. The library asks nothing of the bytes, keeps no pointer and has no state, so no call can disturb a later one or one of
-//! another thread.
+//! What C asks of its caller is that each pointer is to as many bytes or jobs as its length says (not null where that is 0), and that what is
+//! written, the lent buffer and the list of jobs, overlaps nothing else that is given. The functions of this module take slices, which give the
+//! first; mutable borrows beside shared ones give the second. The library asks nothing of the bytes, keeps no pointer and has no state, so no
+//! call can disturb a later one or one of another thread.
 #![allow(unsafe_code)]
 
+use crate::Job;
+
 /// `struct vireo_answer`: `refusal` is 0 where the call was accepted, and then `value` is the record's length or the rank.
+#[derive(Clone, Copy, Debug, PartialEq, Eq)]
 #[repr(C)]
 pub(crate) struct Answer {
     pub(crate) refusal: u64,
@@ -15,7 +18,7 @@ pub(crate) struct Answer {
     pub(crate) given: u64,
 }
 
-// As the header has them: usize stands for size_t, and `Answer` has the header's fields in its order.
+// As the header has them: usize stands for size_t, and `Answer` and `Job` have the header's fields in its order.
 extern "C" {
     fn vireo_call_ctor(
         stage: u8,
@@ -43,6 +46,14 @@ extern "C" {
         out_len: usize,
     ) -> Answer;
     fn vireo_conversion_rank(target: *const u8, target_len: usize, args: *const u8, args_len: usize) -> Answer;
+    fn vireo_call_batch(
+        bytes: *const u8,
+        bytes_len: usize,
+        jobs: *mut Job,
+        jobs_len: usize,
+        out: *mut u8,
+        out_len: usize,
+    ) -> Answer;
 }
 
 #[inline]
@@ -70,4 +81,12 @@ pub(crate) fn convert_to(target: &[u8], args: &[u8], out: &mut [u8]) -> Answer {
 pub(crate) fn conversion_rank(target: &[u8], args: &[u8]) -> Answer {
     // SAFETY: two slices, each its pointer and its length; both are only read, and nothing is kept.
     unsafe { vireo_conversion_rank(target.as_ptr(), target.len(), args.as_ptr(), args.len()) }
+}
+
+#[inline]
+pub(crate) fn call_batch(bytes: &[u8], jobs: &mut [Job], out: &mut [u8]) -> Answer {
+    // SAFETY: three slices, each its pointer and its length, none of them null; `jobs` and `out` are borrowed mutably, so no two of the three
+    // overlap. A job may hold any numbers: the library looks at its parts before it reads them. It writes only `out` and the jobs, any numbers of
+    // which are a `Job` again, and keeps nothing past the call.
+    unsafe { vireo_call_batch(bytes.as_ptr(), bytes.len(), jobs.as_mut_ptr(), jobs.len(), out.as_mut_ptr(), out.len()) }
 }

@@ -3,19 +3,23 @@
 
 mod bytes;
 mod ffi;
+mod job;
 mod literal;
 mod owned;
 mod record;
 mod refusal;
+mod route;
 mod target;
 mod ty;
 mod value;
 
-pub use bytes::{call_ctor_bytes, conversion_rank_bytes, convert_to_bytes, type_ctor_bytes};
+pub use bytes::{call_batch_bytes, call_ctor_bytes, conversion_rank_bytes, convert_to_bytes, type_ctor_bytes};
+pub use job::{Job, Part, MOST_JOBS};
 pub use literal::{Kind, Literal};
 pub use owned::{call_ctor, conversion_rank, convert_to, type_ctor, LONGEST};
 pub use record::Malformed;
 pub use refusal::Refusal;
+pub use route::Route;
 pub use target::Target;
 pub use ty::Type;
 pub use value::Value;

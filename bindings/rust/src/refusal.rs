@@ -11,7 +11,7 @@ pub struct Refusal {
 }
 
 impl Refusal {
-    /// The number, as document 01 has it: 1 to 16, 21 or 22.
+    /// The number, as document 01 has it: 1 to 16, or 21 to 24.
     pub fn number(&self) -> u64 {
         self.number
     }
@@ -24,10 +24,6 @@ impl Refusal {
     /// Refusal 8: how many were given.
     pub fn given(&self) -> Option<u64> {
         (self.number == 8).then_some(self.given)
-    }
-
-    pub(crate) fn bad_target() -> Refusal {
-        Refusal { number: 1, wanted: 0, given: 0 }
     }
 }
 
@@ -61,6 +57,8 @@ impl fmt::Display for Refusal {
             16 => "typing of a runtime-sized array or of an abstract vector type",
             21 => "outside the float's range because the stage is Const",
             22 => "the record is longer than the buffer",
+            23 => "more than 256 jobs",
+            24 => "a job's part reaches outside the slice, or is empty and begins past its end",
             _ => "unknown",
         };
         write!(f, "refusal {}: {words}", self.number)
@@ -75,7 +73,7 @@ mod tests {
 
     #[test]
     fn every_number_has_words() {
-        for number in (1..=16).chain(21..=22) {
+        for number in (1..=16).chain(21..=24) {
             let words = Refusal { number, wanted: 3, given: 2 }.to_string();
             assert!(words.starts_with(&format!("refusal {number}: ")) && !words.ends_with("unknown"), "{words}");
         }

@@ -1,6 +1,6 @@
 use crate::{
     record::{Malformed, Reader, Record, DEPTH, TYPE_LENGTH},
-    ty::side,
+    ty::{array_length, matrix_length, side, vector_length},
     Type,
 };
 
@@ -33,6 +33,16 @@ impl Target {
             Target::Array => Ok(b"Qa".to_vec()),
             Target::Vector(n) => Ok(vec![b'Q', b'v', *n]),
             Target::Matrix(columns, rows) => Ok(vec![b'Q', b'm', *columns, *rows]),
+        }
+    }
+
+    /// The length of the record that an accepted call makes of arguments of some length in all. A conversion changes kinds, and with them no lengths.
+    pub(crate) fn result_length(&self, args: usize) -> usize {
+        match self {
+            Target::Type(ty) => ty.value_length(),
+            Target::Runtime(_) | Target::Array => array_length(args),
+            Target::Vector(n) => vector_length(*n),
+            Target::Matrix(columns, rows) => matrix_length(*columns, *rows),
         }
     }
 

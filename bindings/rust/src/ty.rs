@@ -73,6 +73,19 @@ impl Type {
         }
     }
 
+    /// The length of the record of a value of this type, as far as a `usize` goes. The type is not too deep to have a record.
+    pub(crate) fn value_length(&self) -> usize {
+        match self {
+            Type::Scalar(_) => LITERAL,
+            Type::Vector { n, .. } => vector_length(*n),
+            Type::Matrix { columns, rows, .. } => matrix_length(*columns, *rows),
+            Type::Array { count, element } => array_length(element.value_length().saturating_mul((*count).into())),
+            Type::Struct { members, .. } => {
+                members.iter().fold(6, |length, member| length.saturating_add(member.value_length()))
+            }
+        }
+    }
+
     /// The numbers of every part are in range.
     pub(crate) fn shaped(&self) -> Result<(), &'static str> {
         match self {
@@ -91,6 +104,22 @@ impl Type {
             Type::Struct { members, .. } => members.iter().try_for_each(Type::shaped),
         }
     }
+}
+
+/// The length of a literal's record.
+const LITERAL: usize = 11;
+
+pub(crate) fn vector_length(n: u8) -> usize {
+    3 + usize::from(n) * LITERAL
+}
+
+pub(crate) fn matrix_length(columns: u8, rows: u8) -> usize {
+    4 + usize::from(columns) * vector_length(rows)
+}
+
+/// The length of an array's record whose elements have some length in all.
+pub(crate) fn array_length(elements: usize) -> usize {
+    elements.saturating_add(4)
 }
 
 /// "2, 3 or 4"

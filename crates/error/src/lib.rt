@@ -1,9 +1,11 @@
 // The source's error.rs: the refusals by their numbers, and the answer of an entry that writes a record.
+ghost use mathlib.Core.Path.{_≡_};
 ghost use lib.ListN.{length};
-ghost use Rattle.error.specs.Told.{Told};
+ghost use Rattle.error.specs.Told.{paper, Told};
+ghost use Rattle.error.specs.Numbers.{numbers, inNumbers};
 ghost use Rattle.error.specs.Hand.{handed};
 
-// The refusals of document 01, by their numbers, each with its words. The numbers are written once, here.
+// The refusals of documents 01 and 02, by their numbers, each with its words. The numbers are written once, here.
 pub struct Refusal;
 
 impl Refusal {
@@ -60,6 +62,12 @@ impl Refusal {
 
     // "the accepted record is longer than the lent buffer, also where its length is past 64 bits"
     pub const NO_ROOM: u8 = 22;
+
+    // a batch: "more than 256 jobs"
+    pub const TOO_MANY_JOBS: u8 = 23;
+
+    // a batch: "a job whose part reaches outside the slice, or is empty and begins past its end"
+    pub const PART_OUTSIDE: u8 = 24;
 }
 
 // The answer of an entry that writes a record: the record's length, the number of the refusal, or 8 with the count wanted and the count given.
@@ -67,6 +75,61 @@ pub enum Written {
     Record(usize),
     Refused(u8),
     Miscount(usize, usize),
+}
+
+// An answer in numbers, as C takes it: the number of the refusal, or 0; the record's length, or the rank; and for the refusal 8 the count wanted and the count given.
+#[repr(C)]
+pub struct Answer {
+    pub refusal: u64,
+    pub value: u64,
+    pub wanted: u64,
+    pub given: u64,
+}
+
+impl Answer {
+    pub fn accepted(value: u64) -> Answer
+        ensures { λ r. ⌜ r ≡ numbers 0 value 0 0 ⌝ }
+    {
+        Answer {
+            refusal: 0,
+            value: value,
+            wanted: 0,
+            given: 0,
+        }
+    }
+
+    pub fn refused(n: u8) -> Answer
+        ensures { λ r. ⌜ r ≡ numbers n 0 0 0 ⌝ }
+    {
+        Answer {
+            refusal: n as u64,
+            value: 0,
+            wanted: 0,
+            given: 0,
+        }
+    }
+
+    fn miscounted(wanted: usize, given: usize) -> Answer
+        ensures { λ r. ⌜ r ≡ numbers 8 0 wanted given ⌝ }
+    {
+        Answer {
+            refusal: Refusal::COUNT as u64,
+            value: 0,
+            wanted: wanted as u64,
+            given: given as u64,
+        }
+    }
+}
+
+// The answer of an entry that writes a record, in numbers.
+pub fn in_numbers(answer: Written) -> Answer
+    ensures { λ r. ⌜ r ≡ inNumbers (λ n. n) (paper answer) ⌝ }
+{
+    match answer {
+        Written::Record(n) => Answer::accepted(n as u64),
+        Written::Refused(n) => Answer::refused(n),
+        Written::Miscount(w, g) => Answer::miscounted(w, g),
+    }
 }
 
 // The bytes of an accepted record, if the lent buffer takes them.

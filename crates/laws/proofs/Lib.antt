@@ -26,3 +26,4 @@ pub mod Built
 pub mod Handed
 pub mod Third
 pub mod Left
+pub mod Batch

@@ -2,3 +2,4 @@ pub mod Opened
 pub mod Calls
 pub mod Table
 pub mod Cases
+pub mod Batches

@@ -9,3 +9,4 @@ pub mod Convert
 pub mod Build
 pub mod Typing
 pub mod Entries
+pub mod Batch

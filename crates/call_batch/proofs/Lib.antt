@@ -1,0 +1,4 @@
+-- one job alone on what is left; what a batch has done after some of its turns; a slice that is lent again
+pub mod Alone
+pub mod Turns
+pub mod LentAgain

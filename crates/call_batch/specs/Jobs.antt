@@ -1,0 +1,96 @@
+-- The lent list of jobs: what an entry names, what stands in it at exit, and what the steps of a batch do.
+use mathlib.Core.Path.{_≡_}
+use mathlib.Core.List.{List, [], _∷_, _++_, map}
+use mathlib.Core.Bool.{Bool, _&&_, cond}
+use Prim.Native.Nat.{ℕ, _+_, _-_, _≤_}
+use lib.Dec.{T, leb, eqb}
+use lib.ListN.{length, take, drop}
+use Rattle.meaning.specs.Answers.{Result, ok, no, miscount}
+use Rattle.meaning.specs.Answers as definition
+use Rattle.meaning.specs.Entries.{laid}
+use Rattle.meaning.specs.Batch as batch
+use Rattle.meaning.specs.Batch.{Turn, inside, partsInside, alone, recordOf, turns, batchTurns, batchAnswer}
+use Rattle.error.specs.Numbers.{numbers, inNumbers, Records}
+use Rattle.error.specs.declared.Answer.{Answer}
+use Rattle.call_batch.specs.declared.Part.{Part}
+use Rattle.call_batch.specs.declared.Job.{Job}
+use Rattle.call_batch.specs.declared.Step.{Step}
+
+-- ---- an entry of the list
+
+-- the job that it names
+abbrev pub partOf : Part → batch.Part
+partOf p = record { start = p .start; size = p .len }
+
+abbrev pub jobOf : Job → batch.Job
+jobOf j = record { stage = j .stage; target = partOf (j .target); args = partOf (j .args) }
+
+-- "each job's own answer is put into its entry in the list"
+abbrev pub answered : Job → Turn → Job
+answered j t = record { target = j .target; args = j .args; stage = j .stage; answer = inNumbers length (t .answer); at = t .start }
+
+-- the entries with the answers of their turns
+unfoldable pub filled : List Job → List Turn → List Job
+filled [] ts = []
+filled (j ∷ js) [] = []
+filled (j ∷ js) (t ∷ ts) = answered j t ∷ filled js ts
+
+-- the list at exit: a call that is refused leaves it as it was
+unfoldable pub listed : Result (List Turn) → List Job → List Job
+listed (ok ts) js = filled js ts
+listed (no n) js = js
+listed (miscount w g) js = js
+
+-- ---- the call: its own answer and every byte of the buffer, and every entry of the list, all by what `batchTurns` says of the slice, the jobs and the buffer's length
+pub record Batched (s : List ℕ) (js : List Job) (out : List ℕ) (r : Answer) (js′ : List Job) (out′ : List ℕ) : Type 0 where
+  pub answers : Records (batchAnswer s (map jobOf js) (length out)) out r out′
+  pub lists : js′ ≡ listed (batchTurns s (map jobOf js) (length out)) js
+
+-- ---- one job
+
+-- the answer of a job alone on what is left of the buffer from `at` on
+abbrev pub aloneAt : List ℕ → batch.Job → List ℕ → ℕ → definition.Answer
+aloneAt s j out at = alone s j (length out - at)
+
+-- what stands before `at` is kept, and the rest is as that call leaves it
+abbrev pub laidAt : definition.Answer → List ℕ → ℕ → List ℕ
+laidAt a out at = take at out ++ laid a (drop at out)
+
+pub record Does (s : List ℕ) (j : batch.Job) (out : List ℕ) (at : ℕ) (r : Answer) (out′ : List ℕ) : Type 0 where
+  pub numbers : r ≡ inNumbers length (aloneAt s j out at)
+  pub leaves : out′ ≡ laidAt (aloneAt s j out at) out at
+
+abbrev pub OneDone : List ℕ → ℕ → ℕ → ℕ → ℕ → ℕ → List ℕ → ℕ → Answer → List ℕ → Type 0
+OneDone s target tlen args alen stage out at r out′ = Does s (record { stage = stage; target = record { start = target; size = tlen }; args = record { start = args; size = alen } }) out at r out′
+
+-- what the walk has seen to before a job is done
+abbrev pub Ready : List ℕ → Job → List ℕ → ℕ → Type 0
+Ready s j out at = (T (partsInside (length s) (jobOf j))) × (at ≤ length out)
+
+-- the job with its answer, and the place of the next record
+abbrev pub stepOf : List ℕ → Job → ℕ → ℕ → Step
+stepOf s j room at =
+    let a = alone s (jobOf j) (room - at) in
+    record { job = answered j (record { answer = a; start = at }); next = at + length (recordOf a) }
+
+abbrev pub Stepped : List ℕ → Job → List ℕ → ℕ → Step → List ℕ → Type 0
+Stepped s j out at r out′ = (r ≡ stepOf s j (length out) at) × (out′ ≡ laidAt (aloneAt s (jobOf j) out at) out at)
+
+-- ---- the refusals of the whole call
+
+-- 23 or 0
+abbrev pub counting : ℕ → ℕ
+counting n = cond (leb n 256) 0 23
+
+abbrev pub insideOf : ℕ → Part → Bool
+insideOf room p = inside room (partOf p)
+
+-- the refusal so far, 24 or 0
+abbrev pub judging : ℕ → ℕ → Job → ℕ
+judging refusal room j = cond (eqb refusal 0) (cond (partsInside room (jobOf j)) 0 24) refusal
+
+abbrev pub doing : ℕ → ℕ → ℕ
+doing refusal n = cond (eqb refusal 0) n 0
+
+abbrev pub closing : ℕ → ℕ → Answer
+closing refusal n = cond (eqb refusal 0) (numbers 0 n 0 0) (numbers refusal 0 0 0)
