@@ -3,7 +3,7 @@
  * What is promised of every function here, for every input, and proved (docs/TRUST.md):
  * - Nothing is asked of the bytes. Target and arguments may be anything, of any length, also none; a malformed target is refusal 1, malformed arguments are 2.
  * - The answer is one whole record (or a rank), or one numbered refusal; a batch has one for each job. Which one, the definitions say:
- *   crates/meaning/specs/Entries.antt, by document 01.
+ *   crates/meaning/specs/Entries.antt and crates/meaning/specs/Batch.antt, by documents 01 and 02.
  * - A refusal leaves the lent buffer as it was. What is accepted fills the front of it, `value` bytes, and every byte past that is as it was.
  * - The call always ends, reads only the slices it is given, writes only the lent buffer (a batch also the answers in its list), keeps nothing, and allocates nothing.
  * What the caller owes is C's: each pointer is to as many bytes, or jobs, as its length says (with length 0 any pointer that is not null and is aligned will do), and the

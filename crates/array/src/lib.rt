@@ -58,12 +58,14 @@ fn write_array(
     requires { ⌜ SomeElements (now args) count depth (now ty) at ⌝ }
     ensures { λ r. ⌜ ElementsTold (now (args .entry)) count depth (now (ty .entry)) at (now (out .entry)) r (now (out .exit)) ⌝ }
 {
-    if !takes_array(count, ty::value_len(ty, at, depth), out.len()) {
+    let a = &args[..];
+    let t = &ty[..];
+    if !takes_array(count, ty::value_len(t, at, depth), out.len()) {
         return Written::Refused(Refusal::NO_ROOM);
     }
     let p = record::put_mark(out, 0, b'a');
     let q = record::put_le(out, p, 2, count as u64);
-    Written::Record(convert_all::write_all(args, 0, ty, at, depth, out, q))
+    Written::Record(convert_all::write_all(a, 0, t, at, depth, out, q))
 }
 
 // A counted array of the arguments: "conversion (9) before count (8)".

@@ -177,8 +177,9 @@ fn target_call(rules: Rules, target: &[u8], args: &[u8], out: &mut [u8]) -> Writ
 pub fn call_ctor(stage: u8, target: &[u8], args: &[u8], out: &mut [u8]) -> Written
     ensures { λ r. ⌜ Told (buildAnswer stage (now (target .entry)) (now (args .entry)) (length (now (out .entry)))) (now (out .entry)) r (now (out .exit)) ⌝ }
 {
+    let t = &target[..];
     match literal::rules_at(stage) {
-        Staged::At(rules) => target_call(rules, target, args, out),
+        Staged::At(rules) => target_call(rules, t, args, out),
         Staged::Never => Written::Refused(Refusal::NO_STAGE),
     }
 }

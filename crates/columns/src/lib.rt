@@ -89,9 +89,10 @@ pub fn of_parts(
     requires { ⌜ SomeParts k (now ty) (now args) count ⌝ }
     ensures { λ x. ⌜ PartsMade c r k (now (ty .entry)) (now (args .entry)) count (now (out .entry)) x (now (out .exit)) ⌝ }
 {
+    let a = &args[..];
     match shape::matrix_shape(c, r, ty, count) {
-        Shape::Scalars => write_scalars(c, r, k, args, out),
-        Shape::Columns => write_vectors(c, r, k, args, out),
+        Shape::Scalars => write_scalars(c, r, k, a, out),
+        Shape::Columns => write_vectors(c, r, k, a, out),
         Shape::Refused(n) => Written::Refused(n),
         Shape::Miscount(w, g) => Written::Miscount(w, g),
     }

@@ -82,12 +82,14 @@ pub fn arg_converts(args: &[u8], i: usize, ty: &[u8]) -> bool
     requires { ⌜ OneType (now ty) ⌝ }
     ensures { λ r. ⌜ ArgConverts (now (args .entry)) i (now (ty .entry)) r ⌝ }
 {
-    match args::head_of(args, i) {
-        Head::Scalar(j) => scalar_converts(j, ty::head_at(ty, 0, Limit::DEPTH)),
-        Head::Vector(n, j) => vector_converts(n, j, ty::head_at(ty, 0, Limit::DEPTH)),
-        Head::Matrix(c, r, j) => matrix_converts(c, r, j, ty::head_at(ty, 0, Limit::DEPTH)),
-        Head::Array(_) => derived_converts(args, i, ty),
-        Head::Struct(_, _) => derived_converts(args, i, ty),
+    let a = &args[..];
+    let t = &ty[..];
+    match args::head_of(a, i) {
+        Head::Scalar(j) => scalar_converts(j, ty::head_at(t, 0, Limit::DEPTH)),
+        Head::Vector(n, j) => vector_converts(n, j, ty::head_at(t, 0, Limit::DEPTH)),
+        Head::Matrix(c, r, j) => matrix_converts(c, r, j, ty::head_at(t, 0, Limit::DEPTH)),
+        Head::Array(_) => derived_converts(a, i, t),
+        Head::Struct(_, _) => derived_converts(a, i, t),
     }
 }
 
@@ -151,15 +153,17 @@ pub fn all_convert(args: &[u8], from: usize, ty: &[u8], at: usize, depth: u8) ->
     requires { ⌜ depth ≤ 15 ⌝ }
     ensures { λ r. ⌜ AllConvert (now (args .entry)) from depth (now (ty .entry)) at r ⌝ }
 {
-    match ty::type_end(ty, at, depth) {
+    let a = &args[..];
+    let t = &ty[..];
+    match ty::type_end(t, at, depth) {
         TypeEnd::At(e) => {
-            if ty[at + 1] == b's' {
-                return literals_fit(args, from, ty[at + 2]);
+            if t[at + 1] == b's' {
+                return literals_fit(a, from, t[at + 2]);
             }
-            if !others_convert(args, from, &ty[at..e]) {
+            if !others_convert(a, from, &t[at..e]) {
                 return false;
             }
-            all_fit(args, from, ty, at, depth)
+            all_fit(a, from, t, at, depth)
         }
         TypeEnd::Bad => false,
     }

@@ -89,18 +89,19 @@ pub fn mat_parts(c: u8, r: u8, k: u8, args: &[u8], count: usize, out: &mut [u8])
     requires { ⌜ SomeFirst (now args) count ⌝ }
     ensures { λ x. ⌜ MatParts c r k (now (args .entry)) count (now (out .entry)) x (now (out .exit)) ⌝ }
 {
-    match args::head_of(args, 0) {
+    let a = &args[..];
+    match args::head_of(a, 0) {
         Head::Scalar(j) => {
             let ty = [b'T', b's', k];
-            mat_by(c, r, k, j, &ty, args, count, out)
+            mat_by(c, r, k, j, &ty, a, count, out)
         }
         Head::Vector(n, j) => {
             let ty = [b'T', b'v', n, b'T', b's', k];
-            mat_by(c, r, k, j, &ty, args, count, out)
+            mat_by(c, r, k, j, &ty, a, count, out)
         }
-        Head::Matrix(_, _, _) => mat_others(c, r, k, args, count, out),
-        Head::Array(_) => mat_others(c, r, k, args, count, out),
-        Head::Struct(_, _) => mat_others(c, r, k, args, count, out),
+        Head::Matrix(_, _, _) => mat_others(c, r, k, a, count, out),
+        Head::Array(_) => mat_others(c, r, k, a, count, out),
+        Head::Struct(_, _) => mat_others(c, r, k, a, count, out),
     }
 }
 

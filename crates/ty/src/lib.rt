@@ -277,10 +277,11 @@ fn members_end(s: &[u8], at: usize, n: u16, depth: u8) -> TypeEnd
 fn walk_end(s: &[u8], at: usize, depth: u8) -> TypeEnd
     ensures { λ r. ⌜ Told (Ends depth (now (s .entry)) at) r ⌝ }
 {
-    match front_at(s, at, depth) {
+    let t = &s[..];
+    match front_at(t, at, depth) {
         Front::Whole(e) => TypeEnd::At(e),
-        Front::Array => walk_end(s, at + 4, depth - 1),
-        Front::Struct(n) => members_end(s, at + 6, n, depth - 1),
+        Front::Array => walk_end(t, at + 4, depth - 1),
+        Front::Struct(n) => members_end(t, at + 6, n, depth - 1),
         Front::Neither => TypeEnd::Bad,
     }
 }
@@ -513,12 +514,13 @@ fn walk_len(ty: &[u8], at: usize, depth: u8) -> Len
     requires { ⌜ Standing depth (now ty) at ⌝ }
     ensures { λ r. ⌜ Measured depth (now (ty .entry)) at r ⌝ }
 {
-    match head_at(ty, at, depth) {
+    let t = &ty[..];
+    match head_at(t, at, depth) {
         Head::Scalar(k) => Len::Is(at + 3, record::literal_len(k)),
         Head::Vector(n, k) => Len::Is(at + 6, vector_len(n, k)),
         Head::Matrix(c, r, k) => Len::Is(at + 7, matrix_len(c, r, k)),
-        Head::Array(n) => array_len(n, walk_len(ty, at + 4, depth - 1)),
-        Head::Struct(_, n) => members_len(ty, at + 6, n, depth - 1),
+        Head::Array(n) => array_len(n, walk_len(t, at + 4, depth - 1)),
+        Head::Struct(_, n) => members_len(t, at + 6, n, depth - 1),
     }
 }
 
@@ -538,11 +540,12 @@ fn walk_leaf(ty: &[u8], at: usize, depth: u8) -> Leaf
     requires { ⌜ Standing depth (now ty) at ⌝ }
     ensures { λ r. ⌜ LeafAt depth (now (ty .entry)) at r ⌝ }
 {
-    match head_at(ty, at, depth) {
+    let t = &ty[..];
+    match head_at(t, at, depth) {
         Head::Scalar(k) => Leaf::Kind(k),
         Head::Vector(_, k) => Leaf::Kind(k),
         Head::Matrix(_, _, k) => Leaf::Kind(k),
-        Head::Array(_) => walk_leaf(ty, at + 4, depth - 1),
+        Head::Array(_) => walk_leaf(t, at + 4, depth - 1),
         Head::Struct(_, _) => Leaf::Struct,
     }
 }
