@@ -71,21 +71,21 @@ fn do_job(bytes: &[u8], job: Job, out: &mut [u8], at: usize) -> Step
 {
     let target = job.target;
     let args = job.args;
-    let stage = job.stage;
+    let at_stage = job.stage;
     let answer = one_job(
         bytes,
         target.start,
         target.len,
         args.start,
         args.len,
-        stage,
+        at_stage,
         out,
         at,
     );
     let done = Job {
         target: target,
         args: args,
-        stage: stage,
+        stage: at_stage,
         answer: answer,
         at: at,
     };
