@@ -58,6 +58,7 @@ fn write_array(
     requires { ⌜ SomeElements (now args) count depth (now ty) at ⌝ }
     ensures { λ r. ⌜ ElementsTold (now (args .entry)) count depth (now (ty .entry)) at (now (out .entry)) r (now (out .exit)) ⌝ }
 {
+    // taken anew: its two words are read one by one, not copied at once (docs/DECISIONS.md, 66)
     let a = &args[..];
     let t = &ty[..];
     if !takes_array(count, ty::value_len(t, at, depth), out.len()) {

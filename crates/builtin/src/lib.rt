@@ -177,6 +177,7 @@ fn target_call(rules: Rules, target: &[u8], args: &[u8], out: &mut [u8]) -> Writ
 pub fn call_ctor(stage: u8, target: &[u8], args: &[u8], out: &mut [u8]) -> Written
     ensures { λ r. ⌜ Told (buildAnswer stage (now (target .entry)) (now (args .entry)) (length (now (out .entry)))) (now (out .entry)) r (now (out .exit)) ⌝ }
 {
+    // taken anew: its two words are read one by one, not copied at once (docs/DECISIONS.md, 66)
     let t = &target[..];
     match literal::rules_at(stage) {
         Staged::At(rules) => target_call(rules, t, args, out),

@@ -18,7 +18,8 @@ use Rattle.error.specs.declared.Answer.{Answer}
 use Rattle.error.specs.declared.Written.{Written}
 use Rattle.error.proofs.Numbers.{told}
 use Rattle.laws.proofs.Back.{and-l, and-r}
-use Rattle.call_batch.specs.Jobs.{jobOf, aloneAt, Does, OneDone, Stepped}
+use Rattle.call_batch.specs.Jobs.{jobOf}
+use Rattle.call_batch.specs.Steps.{aloneAt, Does, OneDone, Stepped}
 use Rattle.call_batch.specs.declared.Job.{Job}
 use Rattle.laws.proofs.Batch.{record-fits}
 

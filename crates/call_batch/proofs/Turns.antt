@@ -17,7 +17,8 @@ use Rattle.meaning.specs.Batch as batch
 use Rattle.meaning.specs.Batch.{Turn, partsInside, alone, recordOf, turns, records, batchTurns, batchAnswer}
 use Rattle.error.specs.Numbers.{numbers, Records, valueOf, wantedOf, givenOf}
 use Rattle.laws.proofs.Back.{and-l, and-r}
-use Rattle.call_batch.specs.Jobs.{jobOf, answered, filled, listed, Batched, aloneAt, laidAt, Ready, stepOf, counting, judging, doing, closing}
+use Rattle.call_batch.specs.Jobs.{jobOf, answered, filled, listed, Batched}
+use Rattle.call_batch.specs.Steps.{aloneAt, laidAt, Ready, stepOf, counting, judging, doing, closing}
 use Rattle.call_batch.specs.declared.Job.{Job}
 use Rattle.laws.proofs.Batch.{records-fit, turns-append, records-append, turns-length}
 

@@ -5,7 +5,8 @@ use error::Refusal;
 ghost use mathlib.Core.Path.{_≡_};
 ghost use Prim.Native.Nat.{_+_, _≤_, _<_};
 ghost use lib.ListN.{length};
-ghost use Rattle.call_batch.specs.Jobs.{OneDone, counting, insideOf, judging, doing, Ready, Stepped, closing, Batched};
+ghost use Rattle.call_batch.specs.Jobs.{Batched};
+ghost use Rattle.call_batch.specs.Steps.{OneDone, counting, insideOf, judging, doing, Ready, Stepped, closing};
 
 // A part of the lent slice: where it starts, and how many bytes it has.
 #[repr(C)]

@@ -89,6 +89,7 @@ pub fn of_parts(
     requires { ⌜ SomeParts k (now ty) (now args) count ⌝ }
     ensures { λ x. ⌜ PartsMade c r k (now (ty .entry)) (now (args .entry)) count (now (out .entry)) x (now (out .exit)) ⌝ }
 {
+    // taken anew: its two words are read one by one, not copied at once (docs/DECISIONS.md, 66)
     let a = &args[..];
     match shape::matrix_shape(c, r, ty, count) {
         Shape::Scalars => write_scalars(c, r, k, a, out),

@@ -82,6 +82,7 @@ pub fn arg_converts(args: &[u8], i: usize, ty: &[u8]) -> bool
     requires { ⌜ OneType (now ty) ⌝ }
     ensures { λ r. ⌜ ArgConverts (now (args .entry)) i (now (ty .entry)) r ⌝ }
 {
+    // taken anew: its two words are read one by one, not copied at once (docs/DECISIONS.md, 66)
     let a = &args[..];
     let t = &ty[..];
     match args::head_of(a, i) {
@@ -153,6 +154,7 @@ pub fn all_convert(args: &[u8], from: usize, ty: &[u8], at: usize, depth: u8) ->
     requires { ⌜ depth ≤ 15 ⌝ }
     ensures { λ r. ⌜ AllConvert (now (args .entry)) from depth (now (ty .entry)) at r ⌝ }
 {
+    // taken anew: its two words are read one by one, not copied at once (docs/DECISIONS.md, 66)
     let a = &args[..];
     let t = &ty[..];
     match ty::type_end(t, at, depth) {

@@ -89,6 +89,7 @@ pub fn mat_parts(c: u8, r: u8, k: u8, args: &[u8], count: usize, out: &mut [u8])
     requires { ⌜ SomeFirst (now args) count ⌝ }
     ensures { λ x. ⌜ MatParts c r k (now (args .entry)) count (now (out .entry)) x (now (out .exit)) ⌝ }
 {
+    // taken anew: its two words are read one by one, not copied at once (docs/DECISIONS.md, 66)
     let a = &args[..];
     match args::head_of(a, 0) {
         Head::Scalar(j) => {

@@ -277,6 +277,7 @@ fn members_end(s: &[u8], at: usize, n: u16, depth: u8) -> TypeEnd
 fn walk_end(s: &[u8], at: usize, depth: u8) -> TypeEnd
     ensures { λ r. ⌜ Told (Ends depth (now (s .entry)) at) r ⌝ }
 {
+    // taken anew: its two words are read one by one, not copied at once (docs/DECISIONS.md, 66)
     let t = &s[..];
     match front_at(t, at, depth) {
         Front::Whole(e) => TypeEnd::At(e),
@@ -514,6 +515,7 @@ fn walk_len(ty: &[u8], at: usize, depth: u8) -> Len
     requires { ⌜ Standing depth (now ty) at ⌝ }
     ensures { λ r. ⌜ Measured depth (now (ty .entry)) at r ⌝ }
 {
+    // taken anew: its two words are read one by one, not copied at once (docs/DECISIONS.md, 66)
     let t = &ty[..];
     match head_at(t, at, depth) {
         Head::Scalar(k) => Len::Is(at + 3, record::literal_len(k)),
@@ -540,6 +542,7 @@ fn walk_leaf(ty: &[u8], at: usize, depth: u8) -> Leaf
     requires { ⌜ Standing depth (now ty) at ⌝ }
     ensures { λ r. ⌜ LeafAt depth (now (ty .entry)) at r ⌝ }
 {
+    // taken anew: its two words are read one by one, not copied at once (docs/DECISIONS.md, 66)
     let t = &ty[..];
     match head_at(t, at, depth) {
         Head::Scalar(k) => Leaf::Kind(k),
