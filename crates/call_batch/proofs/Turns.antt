@@ -95,7 +95,7 @@ module _ (s : List ℕ) (js₀ : List Job) (os₀ : List ℕ) where
   refusal = refusalOf (batchTurns s (map jobOf js₀) (length os₀))
 
   -- all jobs' parts are inside the slice
-  abbrev insides : Bool
+  abbrev pub insides : Bool
   insides = every (partsInside (length s)) (map jobOf js₀)
 
   -- the turns of all jobs
@@ -106,7 +106,7 @@ module _ (s : List ℕ) (js₀ : List Job) (os₀ : List ℕ) where
   unfolding batchTurns
   batch-is = rw length-map refl
 
-  refusal-by : refusal ≡ cond (leb n 256) (cond insides 0 24) 23
+  pub refusal-by : refusal ≡ cond (leb n 256) (cond insides 0 24) 23
   refusal-by = ap refusalOf batch-is ∙ refusal-is (leb n 256) insides all
 
   -- ---- the first loop
