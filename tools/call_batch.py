@@ -29,16 +29,17 @@ LOCALS = [f'_{k}' for k in range(N)]
 DIES = [f'd{k}' for k in range(N)]
 
 
-# ---- the calls without a slice: name, module, what it is called with (row, evidence, denotation, machine values), its result's row and Denot, what it ensures of r
+# ---- the calls without a slice: by the name of its contract, the function's module, its parameters and what is known of them, what each is called with (its type's row,
+# how it is owned, its value, its machine values), and the row and the type of the result
 WORD = lambda x, fits: ('usize', f'(Is usize) (uint-makes 𝓤 H A W w64) {x} _ (refl, {fits})', x, f'vint w64 {x} ∷ []')
 BYTE = lambda x, fits: ('u8', f'(Is u8) (uint-makes 𝓤 H A W w8) {x} _ (refl, {fits})', x, f'vint w8 {x} ∷ []')
 JOB = lambda x, is_: ('J', f'(Is J) (LL.makes T.the-type T′.the-plain 𝓤 H A) {x} _ {is_}', x, f'vals {x}')
+KNOWN_OF = {'n-fits': 'n < 2 ^ 64', 'f-fits': 'f < 2 ^ 8', 'j-is': 'Is J j (vals j)'}
 CALLS = {
-    'Counts': ('counted', [WORD('n', 'n-fits')], '(n : ℕ) (n-fits : n < 2 ^ 64)', 'n n-fits', 'u8', 'ℕ', 'r ≡ counting n'),
-    'Limits': ('to-do', [BYTE('f', 'f-fits'), WORD('n', 'n-fits')], '(f n : ℕ) (f-fits : f < 2 ^ 8) (n-fits : n < 2 ^ 64)', 'f n f-fits n-fits', 'usize', 'ℕ', 'r ≡ doing f n'),
-    'Judges': ('judged', [BYTE('f', 'f-fits'), WORD('n', 'n-fits'), JOB('j', 'j-is')], '(f n : ℕ) (j : Job) (f-fits : f < 2 ^ 8) (n-fits : n < 2 ^ 64) (j-is : Is J j (vals j))',
-               'f n j f-fits n-fits j-is', 'u8', 'ℕ', 'r ≡ judging f n j'),
-    'Closes': ('ending', [BYTE('f', 'f-fits'), WORD('n', 'n-fits')], '(f n : ℕ) (f-fits : f < 2 ^ 8) (n-fits : n < 2 ^ 64)', 'f n f-fits n-fits', 'An', 'Answer', 'r ≡ closing f n'),
+    'Counts': ('counted', '(n : ℕ)', ['n-fits'], [WORD('n', 'n-fits')], 'u8', 'ℕ'),
+    'Limits': ('to-do', '(f n : ℕ)', ['f-fits', 'n-fits'], [BYTE('f', 'f-fits'), WORD('n', 'n-fits')], 'usize', 'ℕ'),
+    'Judges': ('judged', '(f n : ℕ) (j : Job)', ['f-fits', 'n-fits', 'j-is'], [BYTE('f', 'f-fits'), WORD('n', 'n-fits'), JOB('j', 'j-is')], 'u8', 'ℕ'),
+    'Closes': ('ending', '(f n : ℕ)', ['f-fits', 'n-fits'], [BYTE('f', 'f-fits'), WORD('n', 'n-fits')], 'An', 'Answer'),
 }
 # `whole` is a word of the logic's own
 ALIAS = {'whole': 'ending'}
@@ -54,7 +55,7 @@ def contract(name, module):
 
 def plain_call(w, name, args, said, operands, how, dst):
     """a call of one of CALLS: what it asks is made, its result lands in dst, and e, is and w say what it is"""
-    module, params, _, _, row, denot, _ = CALLS[name]
+    module, _, _, params, row, denot = CALLS[name]
     w.first('nothing', 'e')
     w.say(f'use1 W (raw ({name} {A3} .pre (to-{module} {args[0]}))) (asked-{module} {args[0]} {args[1]}) $')
     ops = '(no-more !)'
@@ -332,9 +333,8 @@ E(f'''module _ {{M : Type 1}} (𝓤 : URA M) (H : Heap 𝓤) (A : Atoms 𝓤) (W
         qed W ((‵ (flft κ₀ q₀) ⊛ (‵ (flft (ν ∷ []) fullShare) ⊛ ‵ ftrue)) ∷ ‵ (owns (ShrSlice (named 0) κ₀ u8 ∷ J ∷ MutSlice (named 1) (ν ∷ []) u8 ∷ usize ∷ []) args-do (sb ∷ [], (vals j, (so ∷ [], (vint w64 at ∷ [], tt))))) ∷ []) ∵
         says ! h $ frame ! $ done !
 ''')
-for name, (module, params, binds, names, row, denot, said) in CALLS.items():
-    vbinds = binds.split(' (f-fits')[0].split(' (n-fits')[0]
-    E(f'''  module _ {vbinds} where
+for name, (module, binds, known, params, _, _) in CALLS.items():
+    E(f'''  module _ {binds} where
     abbrev args-{module} : {types([{'u8': 'ℕ', 'usize': 'ℕ', 'J': 'Job'}[x[0]] for x in params])}
     args-{module} = {tup([x[2] for x in params])}
 
@@ -348,10 +348,8 @@ for name, (module, params, binds, names, row, denot, said) in CALLS.items():
     w.first('nothing', 't')
     w.first('join', 'e')
     w.say('frame ! $ done !')
-    fnames = [x for x in names.split() if '-' in x]
-    ftypes = {'n-fits': 'n < 2 ^ 64', 'f-fits': 'f < 2 ^ 8', 'j-is': 'Is J j (vals j)'}
-    E(f'''    asked-{module} : {' → '.join(ftypes[x] for x in fnames)} → ent 𝓤 (emp 𝓤) ({name} {A3} .pre to-{module})
-    asked-{module} {' '.join(fnames)} =
+    E(f'''    asked-{module} : {' → '.join(KNOWN_OF[x] for x in known)} → ent 𝓤 (emp 𝓤) ({name} {A3} .pre to-{module})
+    asked-{module} {' '.join(known)} =
         qed W (‵ ftrue ∷ []) ∵
 {w.text()}
 ''')
@@ -609,7 +607,7 @@ E(f"""      ends₂ : (i at : ℕ) (js : List Job) (os : List ℕ) (X : SProp �
 """)
 
 
-def invariant(k, turn, rest, loop_fields, at_args, turn_at):
+def invariant(k, turn, rest, at_args, turn_at):
     """what a turn starts from, where t jobs are left, and that the loop ends"""
     L, F = f'Loop{k}', f'Facts{k}'
     E(f"""      abbrev Here{k} : {L} → SProp 𝓤
@@ -672,7 +670,7 @@ E("""      record Loop₂ : Type 0 where
           next : Step
           next = stepOf s (getD (z .js) (z .i) none) (length (z .os)) (z .at)
 """)
-invariant('₂', 'turn-2', 't-12', None, 'At₂ f m (z .i) (z .at) (z .js) (z .os)', """      turn-at₂ zero z h = ends₂ (z .i) (z .at) (z .js) (z .os) (Below₂ zero) (λ x. over (z .i) m (h .count) x) (h .js-len) (h .os-len) (h .at-fits)
+invariant('₂', 'turn-2', 't-12', 'At₂ f m (z .i) (z .at) (z .js) (z .os)', """      turn-at₂ zero z h = ends₂ (z .i) (z .at) (z .js) (z .os) (Below₂ zero) (λ x. over (z .i) m (h .count) x) (h .js-len) (h .os-len) (h .at-fits)
           (done-all s js₀ os₀ f (z .at) (z .js) (z .os) f-is (subst (λ (x : ℕ). Done s js₀ os₀ x (z .at) (z .js) (z .os)) (all-gone (z .i) m (h .count) ∙ m-is) (h .done)))
       turn-at₂ (suc t) z h = more₂ (z .i) (z .at) (z .js) (z .os) (Below₂ (suc t)) (some-left (z .i) t m (h .count)) (within₂ t (z .i) (h .count)) (h .js-len) (h .os-len) (h .at-fits)
           (ready s js₀ os₀ (z .i) (z .at) (z .js) (z .os) none (within₂ t (z .i) (h .count)) (h .done) (accepted t (z .i) (h .count)))
@@ -749,7 +747,7 @@ E(f"""      ends₁ : (i f : ℕ) (X : SProp 𝓤) → (i < m → ⊥) → f < 2
       within₁ : (t i : ℕ) → i + suc t ≡ m → i < n₀
       within₁ t i e = doing-below (counting n₀) n₀ i (subst (λ (x : ℕ). i < x) m-is (some-left i t m e))
 """)
-invariant('₁', 'turn-1', 't-7', None, 'At₁ (z .f) m (z .i)', """      turn-at₁ zero z h = ends₁ (z .i) (z .f) (Below₁ zero) (λ x. over (z .i) m (h .count) x) (h .f-fits)
+invariant('₁', 'turn-1', 't-7', 'At₁ (z .f) m (z .i)', """      turn-at₁ zero z h = ends₁ (z .i) (z .f) (Below₁ zero) (λ x. over (z .i) m (h .count) x) (h .f-fits)
           (judged-all s js₀ os₀ (z .f) (subst (λ (x : ℕ). Judged s js₀ os₀ x (z .f)) (all-gone (z .i) m (h .count) ∙ m-is) (h .judged)))
       turn-at₁ (suc t) z h = more₁ (z .i) (z .f) (Below₁ (suc t)) (some-left (z .i) t m (h .count)) (within₁ t (z .i) (h .count)) (h .f-fits)
           (λ r e fits. below₁ t (record { i = suc (z .i); f = r })
