@@ -11,7 +11,7 @@ pub struct Refusal {
 }
 
 impl Refusal {
-    /// The number, as document 01 has it: 1 to 16, or 21 to 24.
+    /// The number, as documents 01 and 02 have it: 1 to 16, or 21 to 24.
     pub fn number(&self) -> u64 {
         self.number
     }

@@ -3,10 +3,9 @@
 use mathlib.Core.Path.{_≡_, refl, sym, ap, _∙_, subst}
 use mathlib.Core.Option.{some}
 use mathlib.Core.List.{List, [], _∷_, _++_, map, nil≢cons, head-eq-of-cons-eq, tail-eq-of-cons-eq}
-use mathlib.Core.Bool.{Bool, true, false, cond}
 use Prim.Native.Nat.{ℕ, _≤_}
 use native.Mathlib.Omega.{arith}
-use lib.Dec.{T, leb, leb→le}
+use lib.Dec.{T, leb→le}
 use lib.ListN.{length, take, drop, length-map}
 use Rattle.meaning.specs.Trees.{Ty, Val, Of}
 use Rattle.meaning.specs.Answers.{Result, ok, no, miscount, refusalOf, _>>=_}
@@ -19,7 +18,7 @@ use Rattle.error.specs.Numbers.{valueOf}
 use Rattle.error.specs.declared.Answer.{Answer}
 use Rattle.call_batch.specs.Jobs.{jobOf, answered, filled, listed, Batched}
 use Rattle.call_batch.specs.declared.Job.{Job}
-use Rattle.call_batch.proofs.Turns.{refusal, insides, refusal-by}
+use Rattle.call_batch.proofs.Turns.{refusal, not-refused}
 
 -- the bytes that an entry names in a buffer are the whole record of a well-formed value, and read as an argument they are that value
 pub record RecordAt (out : List ℕ) (e : Job) : Type 0 where
@@ -73,18 +72,13 @@ refusal-through (no n) = refl
 refusal-through (miscount w g) = refl
 
 module _ {s : List ℕ} {js : List Job} {out : List ℕ} {r : Answer} {js′ : List Job} {out′ : List ℕ} (b : Batched s js out r js′ out′) (accepted : r .refusal ≡ 0) where
-  not-refused : refusal s js out ≡ 0
+  no-refusal : refusal s js out ≡ 0
   unfolding batchAnswer
-  not-refused = sym (refusal-through (batchTurns s (map jobOf js) (length out))) ∙ sym (ap (λ (x : Answer). x .refusal) (b .answers .numbers)) ∙ accepted
-
-  passed : (x y : Bool) → _≡_ {A = ℕ} (cond x (cond y 0 24) 23) 0 → T x × T y
-  passed true true e = (tt, tt)
-  passed true false e = absurd (omega arith)
-  passed false y e = absurd (omega arith)
+  no-refusal = sym (refusal-through (batchTurns s (map jobOf js) (length out))) ∙ sym (ap (λ (x : Answer). x .refusal) (b .answers .numbers)) ∙ accepted
 
   are-turns : batchTurns s (map jobOf js) (length out) ≡ ok (turns s (map jobOf js) 0 (length out))
   are-turns =
-      let p = passed (leb (length js) 256) (insides s js out) (sym (refusal-by s js out) ∙ not-refused) in
+      let p = not-refused s js out no-refusal in
       accepts s (map jobOf js) (length out) _ (record { few = rw length-map (leb→le (length js) 256 (p .0)); within = p .1; are = refl })
 
   list-is : js′ ≡ filled js (turns s (map jobOf js) 0 (length out))

@@ -7,8 +7,8 @@ use Prim.Native.Nat.{ℕ, zero, suc, _-_, _≤_, _<_}
 use native.Mathlib.Omega.{arith}
 use native.Mathlib.Nat.{zero-add, suc-inj}
 use lib.Dec.{T, leb}
-use lib.ListN.{length, take, drop, getD, set, length-append, length-drop, length-map}
-use lib.Seq.{take-suc, drop-cons, take-length, drop-length, length-take-le, set-at, getD-at, take-append-seam, drop-append-seam, drop-drop}
+use lib.ListN.{length, take, drop, getD, set, length-append, length-map}
+use lib.Seq.{take-suc, drop-cons, take-length, drop-length, length-take-le, set-at, getD-at, take-append-seam, drop-append-seam}
 use Rattle.meaning.specs.Answers.{Result, ok, no, miscount, refusalOf, need, _>>_, _>>=_}
 use Rattle.meaning.specs.Answers as definition
 use Rattle.meaning.specs.Records.{every}
@@ -17,10 +17,11 @@ use Rattle.meaning.specs.Batch as batch
 use Rattle.meaning.specs.Batch.{Turn, partsInside, alone, recordOf, turns, records, batchTurns, batchAnswer}
 use Rattle.error.specs.Numbers.{numbers, Records, valueOf, wantedOf, givenOf}
 use Rattle.laws.proofs.Back.{and-l, and-r}
+use Rattle.laws.proofs.Handed.{front-keeps}
 use Rattle.call_batch.specs.Jobs.{jobOf, answered, filled, listed, Batched}
 use Rattle.call_batch.specs.Steps.{aloneAt, laidAt, Ready, stepOf, counting, judging, doing, closing}
 use Rattle.call_batch.specs.declared.Job.{Job}
-use Rattle.laws.proofs.Batch.{records-fit, turns-append, records-append, turns-length}
+use Rattle.laws.proofs.Batch.{records-fit, turns-append, records-append, turns-length, laid-append}
 
 -- the refusal after the jobs of a list were looked at one after another, where it was f before
 unfoldable pub judgedAll : ℕ → List Job → ℕ → ℕ
@@ -72,19 +73,24 @@ filled-length (j ∷ js) (t ∷ ts) h = ap suc (filled-length js ts (suc-inj h))
 -- one more answer behind the records that are laid already
 laid-at : (r os : List ℕ) (a : definition.Answer) → laidAt a (laid (ok r) os) (length r) ≡ laid (ok (r ++ recordOf a)) os
 unfolding laid recordOf
-laid-at r os (ok u) = rw (take-append-seam, drop-append-seam, drop-drop, length-append, append-assoc) refl
+laid-at r os (ok u) = sym (laid-append r u os)
 laid-at r os (no n) = rw (take-append-seam, drop-append-seam, append-nil) refl
 laid-at r os (miscount w g) = rw (take-append-seam, drop-append-seam, append-nil) refl
 
 laid-length : (r os : List ℕ) → length r ≤ length os → length (laid (ok r) os) ≡ length os
 unfolding laid
-laid-length r os h = simp (length-append, length-drop) (omega arith)
+laid-length r os h = front-keeps r os h
 
 refusal-is : (b c : Bool) (ts : List Turn) → refusalOf (need b 23 >> (need c 24 >> ok ts)) ≡ cond b (cond c 0 24) 23
 unfolding refusalOf
 refusal-is true true ts = refl
 refusal-is true false ts = refl
 refusal-is false c ts = refl
+
+passed : (b c : Bool) → _≡_ {A = ℕ} (cond b (cond c 0 24) 23) 0 → T b × T c
+passed true true e = (tt, tt)
+passed true false e = absurd (omega arith)
+passed false c e = absurd (omega arith)
 
 module _ (s : List ℕ) (js₀ : List Job) (os₀ : List ℕ) where
   abbrev n : ℕ
@@ -106,8 +112,12 @@ module _ (s : List ℕ) (js₀ : List Job) (os₀ : List ℕ) where
   unfolding batchTurns
   batch-is = rw length-map refl
 
-  pub refusal-by : refusal ≡ cond (leb n 256) (cond insides 0 24) 23
+  refusal-by : refusal ≡ cond (leb n 256) (cond insides 0 24) 23
   refusal-by = ap refusalOf batch-is ∙ refusal-is (leb n 256) insides all
+
+  -- a call that is not refused has passed both tests
+  pub not-refused : refusal ≡ 0 → T (leb n 256) × T insides
+  not-refused e = passed (leb n 256) insides (sym refusal-by ∙ e)
 
   -- ---- the first loop
 
@@ -204,12 +214,7 @@ module _ (s : List ℕ) (js₀ : List Job) (os₀ : List ℕ) where
 
     -- a call that is not refused has seen to what is asked of each job
     pub ready : refusal ≡ 0 → Ready s j os at
-    ready e = (rw same-job (every-at (partsInside (length s)) js₀ k d within (go (leb n 256) insides (sym refusal-by ∙ e))), rw (same-length, h .place) fits)
-      where
-        go : (b c : Bool) → _≡_ {A = ℕ} (cond b (cond c 0 24) 23) 0 → T c
-        go true true q = tt
-        go true false q = absurd (omega arith)
-        go false c q = absurd (omega arith)
+    ready e = (rw same-job (every-at (partsInside (length s)) js₀ k d within (not-refused e .1)), rw (same-length, h .place) fits)
 
   -- what the call owes where its turns are x and its refusal is f
   abbrev Closed : Result (List Turn) → ℕ → ℕ → List Job → List ℕ → Type 0

@@ -8,7 +8,7 @@ use Prim.Native.Nat.{ℕ, suc, _+_, _-_, _≤_}
 use native.Mathlib.Omega.{arith}
 use native.Mathlib.Nat.{add-zero, zero-add, add-assoc, sub-zero}
 use lib.Dec.{T, leb, leb→le, le→leb}
-use lib.ListN.{length, take, drop, getElem?, length-append, length-drop}
+use lib.ListN.{length, take, drop, getElem?, length-append}
 use lib.Seq.{take-append-seam, drop-append-seam, drop-drop}
 use Rattle.meaning.specs.Trees.{Ty, Val, Of, typeOf}
 use Rattle.meaning.specs.Answers.{Result, ok, no, miscount, Answer, need, _>>_, _>>=_}
@@ -19,7 +19,7 @@ use Rattle.meaning.specs.Batch.{Job, part, partsInside, alone, recordOf, Turn, 
 use Rattle.laws.proofs.AgreeConv.{true-of, every-append}
 use Rattle.laws.proofs.Back.{and-r}
 use Rattle.laws.proofs.Exact.{vals-exact}
-use Rattle.laws.proofs.Handed.{building}
+use Rattle.laws.proofs.Handed.{building, front-keeps}
 use Rattle.laws.proofs.Named.{ok-inj, no-ok}
 use Rattle.laws.proofs.Same.{both}
 
@@ -93,7 +93,8 @@ turns-then s l m room =
     let k : ℕ = length (records (turns s l 0 room)) in
     turns-append s l m 0 room ∙ rw (← turns-moved s m k 0 room, zero-add, add-zero)
 
-laid-append : (r y out : List ℕ) → laid (ok (r ++ y)) out ≡ take (length r) (laid (ok r) out) ++ laid (ok y) (drop (length r) (laid (ok r) out))
+-- a record behind a record: the second is laid into what the first one leaves
+pub laid-append : (r y out : List ℕ) → laid (ok (r ++ y)) out ≡ take (length r) (laid (ok r) out) ++ laid (ok y) (drop (length r) (laid (ok r) out))
 unfolding laid
 laid-append r y out = rw (take-append-seam, drop-append-seam, drop-drop, length-append, append-assoc)
 
@@ -253,7 +254,6 @@ batch-keeps s l out = go (batchTurns s l (length out)) refl
   where
     go : (x : Result (List Turn)) → batchTurns s l (length out) ≡ x → length (laid (x >>= λ t. ok (records t)) out) ≡ length out
     go (ok ts) e =
-        let f : length (records ts) ≤ length out = rw (accepted s l (length out) ts e .are, zero-add) at (records-fit s l 0 (length out) (omega arith)) in
-        simp (length-append, length-drop) (omega arith)
+        front-keeps (records ts) out (rw (accepted s l (length out) ts e .are, zero-add) at (records-fit s l 0 (length out) (omega arith)))
     go (no n) e = refl
     go (miscount w g) e = refl

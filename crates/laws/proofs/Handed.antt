@@ -169,7 +169,7 @@ conversion target args room s h =
 
 -- ---- the buffer keeps its length
 
-front-keeps : (s out : List ℕ) → length s ≤ length out → length (s ++ drop (length s) out) ≡ length out
+pub front-keeps : (s out : List ℕ) → length s ≤ length out → length (s ++ drop (length s) out) ≡ length out
 front-keeps s out h = simp (length-append, length-drop) (omega arith)
 
 keeps : (a : Answer) (out : List ℕ) → ((s : List ℕ) → a ≡ ok s → length s ≤ length out) → length (laid a out) ≡ length out

@@ -3,7 +3,7 @@ use mathlib.Core.Path.{_≡_, refl}
 use mathlib.Core.List.{List, [], _∷_, _++_}
 use Prim.Native.Nat.{ℕ, _-_, _^_}
 use lib.ListN.{replicate}
-use Rattle.meaning.specs.Kinds.{bool, aint, f32}
+use Rattle.meaning.specs.Kinds.{aint, f32}
 use Rattle.meaning.specs.Trees.{Ts, Vs}
 use Rattle.meaning.specs.Answers.{Answer, ok, no}
 use Rattle.meaning.specs.Records.{tyBytes, valBytes}
