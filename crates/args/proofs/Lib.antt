@@ -4,3 +4,4 @@ pub mod ArgumentRows
 pub mod Kept
 pub mod LiteralArgs
 pub mod Firsts
+pub mod OneValue

@@ -15,6 +15,7 @@ ghost use Rattle.meaning.specs.Records.{valBytes, tyBytes};
 ghost use Rattle.meaning.specs.Read.{readVals, readTys};
 ghost use Rattle.ty.specs.Targets.{targetOf};
 ghost use Rattle.args.specs.Counts.{isTight, depthFor, bytesFor, argsOf, Rests, Left, ValueArg, TypeArg, Counts, Flat, FlatLeft};
+ghost use Rattle.args.specs.OneValue.{Singles};
 ghost use Rattle.args.specs.Row.{SomeArg, HeadOf, Skips, Types};
 
 // ---- how many
@@ -262,5 +263,29 @@ pub fn next_type(args: &[u8], i: usize, ty: &mut [u8]) -> Step
     match derive::derive(args, i, ty, 0, Limit::DEPTH) {
         Derived::Ends(e, q) => Step { end: e, ty: q },
         Derived::Unfit => Step { end: i, ty: 0 },
+    }
+}
+
+// ---- one value alone
+
+// The bytes are one value, whose type's record was written and ends there; or they are not.
+pub enum Single {
+    Of(usize),
+    Bad,
+}
+
+// Whether the bytes are one well-formed value, and what its type is.
+pub fn one_value(args: &[u8], ty: &mut [u8]) -> Single
+    requires { ⌜ length (now ty) ≡ 4096 ⌝ }
+    ensures { λ r. ⌜ Singles (now (args .entry)) r (now (ty .exit)) ⌝ }
+{
+    match derive::derive(args, 0, ty, 0, Limit::DEPTH) {
+        Derived::Ends(e, q) => {
+            if e != args.len() {
+                return Single::Bad;
+            }
+            Single::Of(q)
+        }
+        Derived::Unfit => Single::Bad,
     }
 }

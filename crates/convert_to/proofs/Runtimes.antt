@@ -19,9 +19,11 @@ use Rattle.ty.proofs.Heads.{any-front}
 use Rattle.ty.proofs.Targets.{whole-bytes, good-length}
 use Rattle.ty.proofs.Places.{put-stands}
 use Rattle.record.specs.Bytes.{Put}
-use Rattle.convert_to.specs.Conversions.{OneValue, Asked, Runtime, converted, convertedRuntime, convertRead}
+use Rattle.convert_to.specs.Conversions.{Asked, Runtime, converted, convertedRuntime, convertRead}
 use Rattle.conv.proofs.FrontOfBuffer.{front-whole}
-use Rattle.convert_to.proofs.OneValue.{one-type, one-read}
+use Rattle.args.specs.OneValue.{OneValue}
+use Rattle.args.proofs.OneValue.{one-type}
+use Rattle.convert_to.proofs.OneValue.{one-read}
 
 pub record ArrayOf (t : Ty) : Type 0 where
   pub count : ℕ

@@ -22,8 +22,10 @@ use Rattle.laws.proofs.Sound.{some-inj}
 use Rattle.ty.specs.Stands.{Standing}
 use Rattle.conv.specs.Values.{ValueTo, ValueRoom}
 use Rattle.shape.proofs.Downs.{some-of, none-of}
-use Rattle.convert_to.specs.Conversions.{OneValue, Asked, Becomes, converted, convertRead}
-use Rattle.convert_to.proofs.OneValue.{one-shaped, one-type, one-has, one-read}
+use Rattle.convert_to.specs.Conversions.{Asked, Becomes, converted, convertRead}
+use Rattle.args.specs.OneValue.{OneValue}
+use Rattle.args.proofs.OneValue.{one-shaped, one-type, one-has}
+use Rattle.convert_to.proofs.OneValue.{one-read}
 
 -- ---- a value that converts
 

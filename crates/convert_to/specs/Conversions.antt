@@ -15,25 +15,7 @@ use Rattle.ty.specs.Stands.{Stands}
 use Rattle.conv.specs.Ranked.{Whole}
 use Rattle.error.specs.Told.{Told}
 use Rattle.error.specs.declared.Written.{Written}
-use Rattle.convert_to.specs.declared.Single.{Single}
-use Rattle.convert_to.specs.declared.Single.the-variants.{Of as One, Bad}
-
--- ---- the one argument
-
--- all of s is the record of the well-formed value v
-pub record OneValue (s : List ℕ) (v : Val) : Type 0 where
-  pub is : s ≡ valBytes v
-  pub good : T (goodVal v)
-
--- and its type's record stands in ty, up to q
-pub record Found (s : List ℕ) (q : ℕ) (ty : List ℕ) : Type 0 where
-  pub value : Val
-  pub one : OneValue s value
-  pub stands : Stands 15 ty 0 (typeOf value) q
-
-abbrev pub Singles : List ℕ → Single → List ℕ → Type 0
-Singles s (One q) ty = Found s q ty
-Singles s Bad ty = (v : Val) → OneValue s v → ⊥
+use Rattle.args.specs.OneValue.{OneValue}
 
 -- ---- to a type
 

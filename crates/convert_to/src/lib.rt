@@ -1,7 +1,7 @@
 // The entry `convert_to` of the source's conv.rs: decided first, then measured, then written.
+use args::Single;
 use error::Refusal;
 use error::Written;
-use inst::Derived;
 use ty::Len;
 use ty::Limit;
 use ty::Target;
@@ -14,29 +14,7 @@ ghost use Rattle.conv.specs.Ranked.{OneType};
 ghost use Rattle.record.specs.Bytes.{Put};
 ghost use Rattle.error.specs.Told.{Told};
 ghost use Rattle.ty.specs.Targets.{RuntimeIs};
-ghost use Rattle.convert_to.specs.Conversions.{Singles, SomeAsked, Converts, SomeBecomes, Writes, SomeRuntime, ConvertsRuntime, TypeTold, RuntimeTold};
-
-// The arguments are one value, whose type's record was written and ends there; or they are not.
-enum Single {
-    Of(usize),
-    Bad,
-}
-
-// Whether the arguments are one well-formed value, and what its type is.
-fn one_value(args: &[u8], ty: &mut [u8]) -> Single
-    requires { ⌜ length (now ty) ≡ 4096 ⌝ }
-    ensures { λ r. ⌜ Singles (now (args .entry)) r (now (ty .exit)) ⌝ }
-{
-    match derive::derive(args, 0, ty, 0, Limit::DEPTH) {
-        Derived::Ends(e, q) => {
-            if e != args.len() {
-                return Single::Bad;
-            }
-            Single::Of(q)
-        }
-        Derived::Unfit => Single::Bad,
-    }
-}
+ghost use Rattle.convert_to.specs.Conversions.{SomeAsked, Converts, SomeBecomes, Writes, SomeRuntime, ConvertsRuntime, TypeTold, RuntimeTold};
 
 // Writes a value that is known to convert, if there is room for it: "22 the accepted record is longer than the lent buffer".
 fn write_value(target: &[u8], args: &[u8], out: &mut [u8]) -> Written
@@ -97,7 +75,7 @@ fn convert_to_type(target: &[u8], args: &[u8], out: &mut [u8]) -> Written
     ensures { λ r. ⌜ TypeTold (now (target .entry)) (now (args .entry)) (now (out .entry)) r (now (out .exit)) ⌝ }
 {
     let mut buf = [0u8; Limit::TYPE_BYTES];
-    match one_value(args, &mut buf) {
+    match args::one_value(args, &mut buf) {
         Single::Of(q) => convert_value(target, args, &buf[..q], out),
         Single::Bad => Written::Refused(Refusal::BAD_ARGUMENT),
     }
@@ -109,7 +87,7 @@ fn convert_to_runtime(target: &[u8], args: &[u8], out: &mut [u8]) -> Written
     ensures { λ r. ⌜ RuntimeTold (now (target .entry)) (now (args .entry)) (now (out .entry)) r (now (out .exit)) ⌝ }
 {
     let mut buf = [0u8; Limit::TYPE_BYTES];
-    match one_value(args, &mut buf) {
+    match args::one_value(args, &mut buf) {
         Single::Of(q) => convert_array(target, args, &buf[..q], out),
         Single::Bad => Written::Refused(Refusal::BAD_ARGUMENT),
     }

@@ -68,6 +68,12 @@ impl Refusal {
 
     // a batch: "a job whose part reaches outside the slice, or is empty and begins past its end"
     pub const PART_OUTSIDE: u8 = 24;
+
+    // memory: "a type that holds Bool, an abstract kind or a runtime-sized array"
+    pub const NO_LAYOUT: u8 = 25;
+
+    // memory: "on reading a slice whose length isn't the type's size"
+    pub const MEMORY_SIZE: u8 = 26;
 }
 
 // The answer of an entry that writes a record: the record's length, the number of the refusal, or 8 with the count wanted and the count given.

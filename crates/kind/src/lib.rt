@@ -1,6 +1,7 @@
 // The scalar kind: the scalar types of ty.rs, by their numbers.
 ghost use mathlib.Core.Path.{_≡_};
 ghost use Rattle.meaning.specs.Kinds.{isFloat, isAbstract, payWidth};
+ghost use Rattle.meaning.specs.Layout.{laidKind, scalarSize};
 ghost use Rattle.kind.specs.Ends.{numbered, tested, known, low, high};
 
 // A scalar kind by its number in a record. A number over 6 is no kind's; each function answers it too.
@@ -88,6 +89,40 @@ impl Scalar {
             Self::U32 => 8,
             Self::F32 => 8,
             Self::F16 => 8,
+            _ => 0,
+        }
+    }
+
+    // Whether the kind has a place in memory: a 32-bit scalar or F16.
+    pub fn has_layout(self) -> bool
+        ensures { λ r. ⌜ r ≡ tested laidKind (self .kind) ⌝ }
+    {
+        let k = self.kind;
+        match k {
+            Self::BOOL => false,
+            Self::ABSTRACT_INT => false,
+            Self::ABSTRACT_FLOAT => false,
+            Self::I32 => true,
+            Self::U32 => true,
+            Self::F32 => true,
+            Self::F16 => true,
+            _ => false,
+        }
+    }
+
+    // How many bytes it takes there; of a kind without a place this is never asked.
+    pub fn memory_size(self) -> usize
+        ensures { λ r. ⌜ r ≡ numbered scalarSize (self .kind) ⌝ }
+    {
+        let k = self.kind;
+        match k {
+            Self::BOOL => 4,
+            Self::ABSTRACT_INT => 4,
+            Self::ABSTRACT_FLOAT => 4,
+            Self::I32 => 4,
+            Self::U32 => 4,
+            Self::F32 => 4,
+            Self::F16 => 2,
             _ => 0,
         }
     }

@@ -9,7 +9,7 @@ use lib.Dec.{T, leb}
 use lib.ListN.{length, length-append}
 use Rattle.meaning.specs.Trees.{Ty, Ts, Tv, Tm, Ta, Tu, Val, Target, Of, Tr, Qa, Qv, Qm, typeOf}
 use Rattle.meaning.specs.Records.{‘T’, ‘r’, tyBytes, valBytes, targetBytes, joined, every, shapedVal, goodVal, goodTy, goodWithin, goodTarget, goodArg, goodTys, goodArgs}
-use Rattle.meaning.specs.Read.{Parser, _>>=_, give, pTy, pVal, pOf, pTr, pShape, pRuntime, pQv, pQm, whole, upto, if?, readTarget, readTys, readVals}
+use Rattle.meaning.specs.Read.{Parser, _>>=_, give, pTy, pVal, pOf, pTr, pShape, pRuntime, pQv, pQm, whole, upto, if?, readTarget, readTys, readVals, readVal}
 use Rattle.laws.proofs.AgreeConv.{true-of}
 use Rattle.laws.proofs.Back.{and-l, and-r, after, shaped-of, deep-of, ty-back}
 use Rattle.laws.proofs.BackVal.{val-back}
@@ -122,3 +122,9 @@ target-back (Tr t) h = rw (runtime-back t h) (kept (Tr t) h)
 target-back Qa h = kept Qa h
 target-back (Qv n) h = kept (Qv n) h
 target-back (Qm c r) h = kept (Qm c r) h
+
+-- ---- one value alone
+
+pub val-alone : (v : Val) → T (goodVal v) → readVal (valBytes v) ≡ some v
+unfolding readVal if?
+val-alone v h = rw (whole-back (pVal 16) (valBytes v) v (rw append-nil at (good-val-back v h [])), true-of (goodVal v) h)

@@ -7,11 +7,11 @@ use Prim.Native.Nat.{ℕ}
 use lib.Dec.{T}
 use Rattle.meaning.specs.Trees.{Target}
 use Rattle.meaning.specs.Records.{tyBytes, valBytes, targetBytes, joined, goodTy, goodVal, goodTarget, goodTys, goodArgs}
-use Rattle.meaning.specs.Read.{Parser, pTy, pVal, readTarget, readTys, readVals}
-use Rattle.laws.proofs.BackAll.{good-ty-back, good-val-back, tys-args, vals-args, target-back}
+use Rattle.meaning.specs.Read.{Parser, pTy, pVal, readTarget, readTys, readVals, readVal}
+use Rattle.laws.proofs.BackAll.{good-ty-back, good-val-back, tys-args, vals-args, target-back, val-alone}
 use Rattle.laws.proofs.Sound.{Bytes, ty-sound}
 use Rattle.laws.proofs.SoundVal.{val-sound}
-use Rattle.laws.proofs.SoundAll.{args-sound, target-sound}
+use Rattle.laws.proofs.SoundAll.{args-sound, target-sound, value-sound}
 
 -- ---- all of the bytes
 
@@ -23,6 +23,10 @@ pub record Exactly {A : Type 0} (good : A → Bool) (write : A → List ℕ) (re
 -- a target: a well-formed one is read back from its record, and a record that is read is the record of a well-formed target
 pub target-exact : Exactly goodTarget targetBytes readTarget
 target-exact = record { back = target-back; sound = target-sound }
+
+-- one value alone
+pub val-exact : Exactly goodVal valBytes readVal
+val-exact = record { back = val-alone; sound = value-sound }
 
 -- the arguments of a build: values that may stand there are read back from their records in a row, and bytes that are read are such records in a row
 pub vals-exact : (g : Target) → Exactly (goodArgs g) (joined valBytes) (readVals g)

@@ -46,7 +46,7 @@ need-ok : {B : Type 0} (b : Bool) (n : ℕ) (y : Result B) (x : B) → (need b n
 need-ok true n y x h = tt
 need-ok false n y x h = no-ok h
 
-hands-value : (room : ℕ) (v : Val) (s : List ℕ) → T (goodVal v) → handVal room v ≡ ok s → WholeValue room s
+pub hands-value : (room : ℕ) (v : Val) (s : List ℕ) → T (goodVal v) → handVal room v ≡ ok s → WholeValue room s
 unfolding handVal goodVal
 hands-value room v s g h =
     let i : valBytes v ≡ s = ok-inj (seq-ok (need (leb (valLen (typeOf v)) room) 22) (ok (valBytes v)) s h) in

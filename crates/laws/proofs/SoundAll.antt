@@ -6,10 +6,11 @@ use mathlib.Core.Bool.{Bool}
 use Prim.Native.Nat.{ℕ, zero, suc}
 use lib.Dec.{T}
 use lib.ListN.{length}
-use Rattle.meaning.specs.Trees.{Target, Qa}
-use Rattle.meaning.specs.Records.{‘T’, ‘Q’, ‘a’, ‘v’, ‘m’, ‘r’, joined, targetBytes, goodTarget}
-use Rattle.meaning.specs.Read.{Parser, give, pOf, pTr, pQv, pQm, pShape, pRuntime, whole, upto, if?, or?, readTarget}
+use Rattle.meaning.specs.Trees.{Val, Target, Qa}
+use Rattle.meaning.specs.Records.{‘T’, ‘Q’, ‘a’, ‘v’, ‘m’, ‘r’, joined, valBytes, targetBytes, goodVal, goodTarget}
+use Rattle.meaning.specs.Read.{Parser, give, pOf, pTr, pQv, pQm, pShape, pRuntime, whole, upto, if?, or?, pVal, readTarget, readVal}
 use Rattle.laws.proofs.Sound.{Bytes, Reads, Any, some-inj, no-some, on-some, on-read, on-if, gave, byte-sound, marked-sound, ty-sound}
+use Rattle.laws.proofs.SoundVal.{val-sound}
 
 -- what passes a check is good
 checked : {A : Type 0} (good : A → Bool) (o : Option A) (a : A) → if? good o ≡ some a → (o ≡ some a) × T (good a)
@@ -89,3 +90,9 @@ target-sound s g b e =
           on-or (whole pRuntime s) _ e₁ (whole-sound runtime-sound s g b) (whole-sound of-sound s g b),
       y .1,
     )
+
+-- ---- one value alone
+
+pub value-sound : (s : List ℕ) (v : Val) → Bytes s → readVal s ≡ some v → (s ≡ valBytes v) × T (goodVal v)
+unfolding readVal
+value-sound s v b e = let y = checked goodVal (whole (pVal 16) s) v e in (whole-sound (val-sound 16) s v b (y .0), y .1)

@@ -3,3 +3,4 @@ pub mod Calls
 pub mod Table
 pub mod Cases
 pub mod Batches
+pub mod Layouts

@@ -10,3 +10,4 @@ pub mod Build
 pub mod Typing
 pub mod Entries
 pub mod Batch
+pub mod Layout

@@ -8,7 +8,7 @@ use lib.Dec.{eqb}
 use lib.ListN.{length}
 use Rattle.meaning.specs.Kinds.{Kind, kindOf, payWidth, sameKind}
 use Rattle.meaning.specs.Trees.{Ty, Ts, Tv, Tm, Ta, Tu, Val, Vs, Vv, Vm, Va, Vu, Target, Of, Tr, Qa, Qv, Qm, tysOf, valsOf}
-use Rattle.meaning.specs.Records.{‘T’, ‘V’, ‘Q’, ‘s’, ‘v’, ‘m’, ‘a’, ‘r’, ‘u’, every, goodTarget, goodArgs, goodTys}
+use Rattle.meaning.specs.Records.{‘T’, ‘V’, ‘Q’, ‘s’, ‘v’, ‘m’, ‘a’, ‘r’, ‘u’, every, goodTarget, goodVal, goodArgs, goodTys}
 
 abbrev pub Parser : Type 0 → Type 0
 Parser A = List ℕ → Option (A × List ℕ)
@@ -220,6 +220,10 @@ or? (some a) b = some a
 -- a whole target, all of whose bytes are one well-formed record or shape
 unfoldable pub readTarget : List ℕ → Option Target
 readTarget s = if? goodTarget (or? (whole pShape s) (or? (whole pRuntime s) (whole pOf s)))
+
+-- one value alone: all of the bytes are its record, and it is well formed
+unfoldable pub readVal : List ℕ → Option Val
+readVal s = if? goodVal (whole (pVal 16) s)
 
 -- the arguments of building, and of typing: records up to the end, all well formed
 unfoldable pub readVals : Target → List ℕ → Option (List Val)

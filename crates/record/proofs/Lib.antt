@@ -6,3 +6,4 @@ pub mod Puts
 pub mod Left
 pub mod Numbers
 pub mod Literals
+pub mod Fronts

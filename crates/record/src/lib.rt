@@ -7,6 +7,7 @@ ghost use lib.ListN.{length, getD, take, drop};
 ghost use Rattle.meaning.specs.Trees.{litLen};
 ghost use Rattle.meaning.specs.Records.{‘V’, le};
 ghost use Rattle.record.specs.Bytes.{Decides, Starts, sameBytes, Width, numberAt, Takes, Put, times};
+ghost use Rattle.record.specs.Fronts.{arrayFront, structFront};
 ghost use Rattle.record.specs.Literals.{widthOf, literalOf, Sized, mostLit};
 
 // ---- what stands at a place
@@ -255,6 +256,27 @@ pub fn put_mark(out: &mut [u8], to: usize, letter: u8) -> usize
     ensures { λ r. ⌜ Put (now (out .entry)) to (‘V’ ∷ letter ∷ []) r (now (out .exit)) ⌝ }
 {
     put_pair(out, to, b'V', letter)
+}
+
+// ---- what stands before the parts of a value
+
+// `Va` count.
+pub fn put_array(n: u16, out: &mut [u8], to: usize) -> usize
+    requires { ⌜ Takes (now out) to (arrayFront n) ⌝ }
+    ensures { λ r. ⌜ Put (now (out .entry)) to (arrayFront n) r (now (out .exit)) ⌝ }
+{
+    let p = put_mark(out, to, b'a');
+    put_le(out, p, 2, n as u64)
+}
+
+// `Vu` identity, member count.
+pub fn put_struct(i: u16, n: u16, out: &mut [u8], to: usize) -> usize
+    requires { ⌜ Takes (now out) to (structFront i n) ⌝ }
+    ensures { λ r. ⌜ Put (now (out .entry)) to (structFront i n) r (now (out .exit)) ⌝ }
+{
+    let p = put_mark(out, to, b'u');
+    let q = put_le(out, p, 2, i as u64);
+    put_le(out, q, 2, n as u64)
 }
 
 // ---- a literal's record: a mark, the kind and the payload, as wide as the kind says

@@ -11,12 +11,13 @@ use Rattle.meaning.specs.Kinds.{Kind, kindNo}
 use Rattle.meaning.specs.Trees.{Ty, Ts, Tv, Tm, Ta, Tu, Tys, [·], _▸_, tysList, Val, countVals, valLen, zeroOf, zerosOf}
 use Rattle.meaning.specs.Records.{le, litBytes, vecBytes, joined, columns, valBytes, valsBytes, shapedTy}
 use Rattle.laws.proofs.AgreeBuild.{zero-made}
-use Rattle.laws.proofs.Length.{le-len, val-len}
+use Rattle.laws.proofs.Length.{val-len}
 use Rattle.laws.proofs.SoundVal.{joined-vals}
 use Rattle.record.specs.Literals.{literalOf}
 use Rattle.record.proofs.Literals.{literal-bytes, joined-times}
 use Rattle.record.specs.Bytes.{times}
-use Rattle.zero.specs.Zeros.{vectorOf, matrixOf, arrayFront, structFront}
+use Rattle.zero.specs.Zeros.{vectorOf, matrixOf}
+use Rattle.record.specs.Fronts.{arrayFront, structFront}
 
 -- ---- lengths
 
@@ -27,14 +28,6 @@ vector-front-long n k = omega arith
 pub matrix-front-long : (c r k : ℕ) → length (matrixOf c r k) ≡ 4 + length (times c (vectorOf r k))
 unfolding matrixOf
 matrix-front-long c r k = omega arith
-
-pub array-front-long : (n : ℕ) → length (arrayFront n) ≡ 4
-unfolding arrayFront
-array-front-long n = omega (arith, le-len 2 n)
-
-pub struct-front-long : (i n : ℕ) → length (structFront i n) ≡ 6
-unfolding structFront
-struct-front-long i n = simp (length-append, le-len)
 
 -- "whose length follows from the type"
 pub zero-long : (t : Ty) → T (shapedTy t) → length (valBytes (zeroOf t)) ≡ valLen t

@@ -12,9 +12,10 @@ use Rattle.ty.specs.declared.Head.{Head}
 use Rattle.ty.specs.declared.Head.the-variants.{Scalar, Vector, Matrix, Array, Struct}
 use Rattle.ty.proofs.Heads.{scalar-is, vector-is, matrix-is, array-is, struct-is, ArrayIs, StructIs, first-is, none-is, FirstIs}
 use Rattle.record.specs.Bytes.{Put, times, Takes}
+use Rattle.record.specs.Fronts.{arrayFront, structFront}
 use Rattle.record.specs.Literals.{literalOf}
 use Rattle.record.proofs.Left.{Left, left-room, left-on, left-end, Copies, copies-room, copies-on, copies-end}
-use Rattle.zero.specs.Zeros.{vectorOf, matrixOf, arrayFront, structFront, ZeroRoom, Zeroes, ElementsRoom, ZeroesEach, MembersRoom, ZeroesAll}
+use Rattle.zero.specs.Zeros.{vectorOf, matrixOf, ZeroRoom, Zeroes, ElementsRoom, ZeroesEach, MembersRoom, ZeroesAll}
 use Rattle.record.proofs.Puts.{put-put}
 use Rattle.zero.proofs.Bytes.{zero-long, scalar-zero, vector-zero, matrix-zero, array-zero, struct-zero, more-zeros, no-zeros}
 

@@ -1,11 +1,11 @@
 -- The zero value, as it is written: its bytes by the numbers in a type's record, the room they need, and the answers.
 use mathlib.Core.Path.{_≡_}
-use mathlib.Core.List.{List, _∷_, _++_}
+use mathlib.Core.List.{List, _∷_}
 use Prim.Native.Nat.{ℕ, _+_, _≤_}
 use lib.ListN.{length}
 use Rattle.meaning.specs.Kinds.{Kind, kindNo}
 use Rattle.meaning.specs.Trees.{Ty, Tv, Tys, valLen, zeroOf, zerosOf}
-use Rattle.meaning.specs.Records.{‘V’, ‘v’, ‘m’, ‘a’, ‘u’, le, valBytes, valsBytes}
+use Rattle.meaning.specs.Records.{‘V’, ‘v’, ‘m’, valBytes, valsBytes}
 use Rattle.meaning.specs.Answers.{ok}
 use Rattle.ty.specs.Stands.{Stands, StandAll}
 use Rattle.conv.specs.Ranked.{Whole}
@@ -23,14 +23,6 @@ vectorOf n k = ‘V’ ∷ ‘v’ ∷ n ∷ times n (literalOf k 0)
 -- "`Vm` c r, c `Vv` records of length r"
 unfoldable pub matrixOf : ℕ → ℕ → ℕ → List ℕ
 matrixOf c r k = ‘V’ ∷ ‘m’ ∷ c ∷ r ∷ times c (vectorOf r k)
-
--- "`Va` count", before the elements
-unfoldable pub arrayFront : ℕ → List ℕ
-arrayFront n = ‘V’ ∷ ‘a’ ∷ le 2 n
-
--- "`Vu` identity, member count", before the members
-unfoldable pub structFront : ℕ → ℕ → List ℕ
-structFront i n = ‘V’ ∷ ‘u’ ∷ (le 2 i ++ le 2 n)
 
 -- ---- "the zero value" of the type whose record stands in ty at `at`; of n such values; of n types in a row
 

@@ -11,7 +11,7 @@ ghost use Rattle.ty.specs.TypeFronts.{kindNumber};
 ghost use Rattle.conv.specs.Ranked.{OneType};
 ghost use Rattle.record.specs.Bytes.{Put, times, Takes};
 ghost use Rattle.record.specs.Literals.{literalOf};
-ghost use Rattle.zero.specs.Zeros.{vectorOf, matrixOf, arrayFront, structFront, ZeroRoom, Zeroes, ElementsRoom, ZeroesEach, MembersRoom, ZeroesAll, ZeroTold, VectorTold};
+ghost use Rattle.zero.specs.Zeros.{vectorOf, matrixOf, ZeroRoom, Zeroes, ElementsRoom, ZeroesEach, MembersRoom, ZeroesAll, ZeroTold, VectorTold};
 
 // Where the type's record ends, and where the value's record does.
 pub struct Zeroed {
@@ -61,27 +61,6 @@ fn put_matrix(c: u8, r: u8, k: u8, out: &mut [u8], to: usize) -> usize
 {
     let p = record::put_four(out, to, b'V', b'm', c, r);
     put_zero_columns(c, r, k, out, p)
-}
-
-// ---- what stands before the parts of a value
-
-// `Va` count.
-fn put_array(n: u16, out: &mut [u8], to: usize) -> usize
-    requires { ⌜ Takes (now out) to (arrayFront n) ⌝ }
-    ensures { λ r. ⌜ Put (now (out .entry)) to (arrayFront n) r (now (out .exit)) ⌝ }
-{
-    let p = record::put_mark(out, to, b'a');
-    record::put_le(out, p, 2, n as u64)
-}
-
-// `Vu` identity, member count.
-fn put_struct(i: u16, n: u16, out: &mut [u8], to: usize) -> usize
-    requires { ⌜ Takes (now out) to (structFront i n) ⌝ }
-    ensures { λ r. ⌜ Put (now (out .entry)) to (structFront i n) r (now (out .exit)) ⌝ }
-{
-    let p = record::put_mark(out, to, b'u');
-    let q = record::put_le(out, p, 2, i as u64);
-    record::put_le(out, q, 2, n as u64)
 }
 
 // ---- the value of a type by its record
@@ -140,11 +119,11 @@ pub fn write_zero(ty: &[u8], at: usize, depth: u8, out: &mut [u8], to: usize) ->
             Zeroed { ty: at + 7, out: p }
         }
         Head::Array(n) => {
-            let p = put_array(n, out, to);
+            let p = record::put_array(n, out, to);
             put_zero_elements(ty, at + 4, n, depth - 1, out, p)
         }
         Head::Struct(i, n) => {
-            let p = put_struct(i, n, out, to);
+            let p = record::put_struct(i, n, out, to);
             put_zero_members(ty, at + 6, n, depth - 1, out, p)
         }
     }

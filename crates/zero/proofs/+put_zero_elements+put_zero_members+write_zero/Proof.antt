@@ -23,9 +23,9 @@ use Rattle.zero.proofs.write_zero.Reads as write-zero
 use Rattle.zero.proofs.write_zero.Kinds as write-zero-kinds
 use Rattle.zero.proofs.+put_zero_elements+put_zero_members+write_zero.Lts-write_zero as write-zero-lts
 use Rattle.ty.proofs.head_at.Reads as head-at-reads
-use Rattle.zero.proofs.put_array.Reads as put-array-reads
+use Rattle.record.proofs.put_array.Reads as put-array-reads
 use Rattle.zero.proofs.put_matrix.Reads as put-matrix-reads
-use Rattle.zero.proofs.put_struct.Reads as put-struct-reads
+use Rattle.record.proofs.put_struct.Reads as put-struct-reads
 use Rattle.zero.proofs.put_vector.Reads as put-vector-reads
 use Rattle.zero.proofs.put_zero.Reads as put-zero-reads
 use Rattle.zero.proofs.+put_zero_elements+put_zero_members+write_zero.{statement}
