@@ -16,7 +16,7 @@ use Rattle.ty.proofs.Numbers.{is-number}
 use Rattle.ty.proofs.Walks.{same-trans}
 use Rattle.record.specs.Bytes.{Starts}
 use Rattle.inst.specs.Values.{Fits, FitsAll, copies}
-use Rattle.inst.specs.Reading.{Told, Says, pairOf, ReadAs, ReadEach, ReadAll, Literals, LiteralAt, VectorAt, MatrixAt}
+use Rattle.inst.specs.Reading.{Told, Says, pairOf, ReadAs, ReadEach, ReadAll, Literals, LiteralAt, VectorAt, Columns, MatrixAt}
 use Rattle.inst.specs.declared.ValueEnd.{ValueEnd}
 use Rattle.inst.specs.declared.Derived.{Derived}
 use Rattle.inst.specs.declared.Derived.the-variants.{Ends, Unfit}
@@ -60,6 +60,9 @@ module _ (s : List ℕ) (at : ℕ) where
 
     pub vector-says : (n k : ℕ) (v : ValueEnd) → Vector n k ≡ headOf t → VectorAt s at n k v → Says (Fits s at t) (λ z. z ≡ q) (pairOf v (o + 6))
     vector-says n k v h f = let x = vector-is w h in leaf-says (Fits s at) (λ z. z ≡ q) (Tv n) (x .kind) k t v (o + 6) (x .no) (x .is) (x .end) f
+
+    pub vectors-say : (n r k : ℕ) (v : ValueEnd) → Vector r k ≡ headOf t → Columns s at n r k v → Says (FitsAll s at (copies n t)) (λ z. 1 ≤ n → z ≡ q) (pairOf v (o + 6))
+    vectors-say n r k v h f = let x = vector-is w h in leaf-says (λ u. FitsAll s at (copies n u)) (λ z. 1 ≤ n → z ≡ q) (Tv r) (x .kind) k t v (o + 6) (x .no) (x .is) (λ i. x .end) f
 
     pub matrix-says : (c r k : ℕ) (v : ValueEnd) → Matrix c r k ≡ headOf t → MatrixAt s at c r k v → Says (Fits s at t) (λ z. z ≡ q) (pairOf v (o + 7))
     matrix-says c r k v h f = let x = matrix-is w h in leaf-says (Fits s at) (λ z. z ≡ q) (Tm c r) (x .kind) k t v (o + 7) (x .no) (x .is) (x .end) f

@@ -138,13 +138,13 @@ pub fn vector_as(s: &[u8], at: usize, n: u8, k: u8) -> ValueEnd
     literals(s, at + 3, record::count(n), k)
 }
 
-// The end of c columns, each a vector of r literals of the kind k.
-fn columns(s: &[u8], at: usize, c: u8, r: u8, k: u8) -> ValueEnd
+// The end of n vectors of r literals of the kind k: a matrix's columns, and an array's elements where they are vectors.
+fn columns(s: &[u8], at: usize, n: u16, r: u8, k: u8) -> ValueEnd
     requires { ⌜ T (kindNumber k) × (at ≤ length (now s)) ⌝ }
-    ensures { λ x. ⌜ Columns (now (s .entry)) at c r k x ⌝ }
+    ensures { λ x. ⌜ Columns (now (s .entry)) at n r k x ⌝ }
 {
     let mut i = at;
-    let mut left = c;
+    let mut left = n;
     while 0 < left {
         match vector_as(s, i, r, k) {
             ValueEnd::At(e) => {
@@ -167,7 +167,7 @@ pub fn matrix_as(s: &[u8], at: usize, c: u8, r: u8, k: u8) -> ValueEnd
     if !four_at(s, at, b'm', c, r) {
         return ValueEnd::Bad;
     }
-    columns(s, at + 4, c, r, k)
+    columns(s, at + 4, record::count(c), r, k)
 }
 
 // The two ends, where the value's is known and its type's is q.
@@ -203,7 +203,7 @@ fn each_as(s: &[u8], at: usize, n: u16, ty: &[u8], o: usize, depth: u8) -> Deriv
     Derived::Ends(i, q)
 }
 
-// The same; where the type is a scalar's, which it is in a long array as a rule, without asking for it again at each element.
+// The same; where the type is a scalar's or a vector's, which it is in a long array as a rule, without asking for it again at each element.
 pub fn elements_as(s: &[u8], at: usize, n: u16, ty: &[u8], o: usize, depth: u8) -> Derived
     requires { ⌜ Standing depth (now ty) o × (at ≤ length (now s)) ⌝ }
     ensures { λ r. ⌜ ReadEach depth (now (ty .entry)) o (now (s .entry)) at n r ⌝ }
@@ -211,6 +211,9 @@ pub fn elements_as(s: &[u8], at: usize, n: u16, ty: &[u8], o: usize, depth: u8) 
     let h = ty::head_at(ty, o, depth);
     if let Head::Scalar(k) = h {
         return with_type(literals(s, at, n, k), o + 3);
+    }
+    if let Head::Vector(r, k) = h {
+        return with_type(columns(s, at, n, r, k), o + 6);
     }
     each_as(s, at, n, ty, o, depth)
 }
@@ -224,7 +227,7 @@ fn members_as(s: &[u8], at: usize, n: u16, ty: &[u8], o: usize, depth: u8) -> De
     let mut q = o;
     let mut left = n;
     while 0 < left {
-        match value_as(s, i, ty, q, depth) {
+        match member_as(s, i, ty, q, depth) {
             Derived::Ends(e, p) => {
                 i = e;
                 q = p;
@@ -260,4 +263,19 @@ pub fn value_as(s: &[u8], at: usize, ty: &[u8], o: usize, depth: u8) -> Derived
             members_as(s, at + 6, n, ty, o + 6, depth - 1)
         }
     }
+}
+
+// A member: the same, without the walk where it is a scalar or a vector.
+fn member_as(s: &[u8], at: usize, ty: &[u8], o: usize, depth: u8) -> Derived
+    requires { ⌜ Standing depth (now ty) o ⌝ }
+    ensures { λ r. ⌜ ReadAs depth (now (ty .entry)) o (now (s .entry)) at r ⌝ }
+{
+    let h = ty::head_at(ty, o, depth);
+    if let Head::Scalar(k) = h {
+        return with_type(literal_as(s, at, k), o + 3);
+    }
+    if let Head::Vector(n, k) = h {
+        return with_type(vector_as(s, at, n, k), o + 6);
+    }
+    value_as(s, at, ty, o, depth)
 }

@@ -1,4 +1,4 @@
--- The arms of `read_value` and `read_elements`: what each is asked, and that what it leaves is the value.
+-- The arms of `read_value`, `read_member` and `read_elements`: what each is asked, and that what it leaves is the value.
 use mathlib.Core.Path.{_≡_, refl, sym, ap, _∙_}
 use mathlib.Core.List.{List, [], _∷_}
 use Prim.Native.Nat.{ℕ, _+_, _-_, _*_, _≤_}

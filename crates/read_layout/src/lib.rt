@@ -69,7 +69,7 @@ fn read_columns(
     Through { from: i, out: p }
 }
 
-// The n elements that lie at `at`, of the type that stands at `o`.
+// The n elements that lie at `at`, of the type that stands at `o`, each with `pad` bytes of padding behind it. Scalars and vectors are seen to before.
 fn each_element(
     ty: &[u8],
     o: usize,
@@ -161,7 +161,7 @@ fn read_members(
     let mut left = n;
     while 0 < left {
         let start = i + record::wide(pads[q + 1]);
-        let w = read_value(ty, q, pads, depth, mem, start, out, p);
+        let w = read_member(ty, q, pads, depth, mem, start, out, p);
         q = w.ty;
         i = w.from;
         p = w.out;
@@ -228,6 +228,40 @@ fn read_value(
             }
         }
     }
+}
+
+// A member: the same, without the walk where it is a scalar or a vector.
+fn read_member(
+    ty: &[u8],
+    o: usize,
+    pads: &[u8],
+    depth: u8,
+    mem: &[u8],
+    at: usize,
+    out: &mut [u8],
+    to: usize,
+) -> Moved
+    requires { ⌜ ValueRoom depth (now ty) o (now pads) (now mem) at (now out) to ⌝ }
+    ensures { λ r. ⌜ ValueMoved depth (now (ty .entry)) o (now (pads .entry)) (now (mem .entry)) at (now (out .entry)) to (r .ty) (r .from) (r .out) (now (out .exit)) ⌝ }
+{
+    let h = ty::head_at(ty, o, depth);
+    if let Head::Scalar(k) = h {
+        let w = read_scalars(mem, at, 1, k, out, to);
+        return Moved {
+            ty: o + 3,
+            from: w.from,
+            out: w.out,
+        };
+    }
+    if let Head::Vector(n, k) = h {
+        let w = read_vector(mem, at, n, k, out, to);
+        return Moved {
+            ty: o + 6,
+            from: w.from,
+            out: w.out,
+        };
+    }
+    read_value(ty, o, pads, depth, mem, at, out, to)
 }
 
 // ---- the entry

@@ -1,4 +1,4 @@
--- The arms of `write_value` and of `write_elements`: what each asks is there, and what it writes is the value's, or the elements'.
+-- The arms of `write_value`, `write_member` and `write_elements`: what each asks is there, and what it writes is the value's, or the elements'.
 use mathlib.Core.Path.{_≡_, sym, ap, _∙_}
 use mathlib.Core.List.{List}
 use Prim.Native.Nat.{ℕ, _+_, _-_, _≤_, _<_}
@@ -33,7 +33,7 @@ module _ {s : List ℕ} {at n r k pad e : ℕ} {bs : List ℕ} (x : ColumnsOf s 
   columns-done : {from q : ℕ} {out′ : List ℕ} → ColumnsMoved s at n r k pad out to from q out′ → (from ≡ e) × Put out to bs q out′
   columns-done y = let z = y e (x .kind) (x .columns) (x .has) in (z .0, rw (x .mem) (z .1))
 
--- ---- what each arm of `write_value` asks
+-- ---- what each arm of `write_value` and `write_member` asks
 
 module _ {d : ℕ} {ty : List ℕ} {o : ℕ} {pads s : List ℕ} {at : ℕ} {out : List ℕ} {to : ℕ} (p : ValueRoom d ty o pads s at out to) where
   pub value-stands : Standing d ty o
@@ -129,7 +129,7 @@ module _ {d : ℕ} {ty : List ℕ} {o : ℕ} {pads s : List ℕ} {at : ℕ} {out
           → Takes between q (zeros (getD pads o 0))
       struct-pad y l = omega (arith, y (p .tyEnd) (p .end) 0 (members .values) (members .are) .2 .end, p .room, members-long)
 
--- ---- what each arm of `write_value` has written
+-- ---- what each arm of `write_value` and `write_member` has written
 
 module _ {d : ℕ} {ty : List ℕ} {o : ℕ} {pads s : List ℕ} {at q e : ℕ} {v : Val} (x : Value d ty o pads s at q e v) {h : Head} (a : HeadAt d ty o h) where
   said : {g : Head} → h ≡ g → g ≡ headOf (typeOf v)

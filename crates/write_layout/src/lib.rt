@@ -64,15 +64,15 @@ fn write_columns(
     let mut p = to;
     let mut left = n;
     while 0 < left {
-        let w = write_literals(s, i + 3, rows, k, out, p);
-        i = w.from;
-        p = put_zeros(out, w.out, pad);
+        let col = write_literals(s, i + 3, rows, k, out, p);
+        i = col.from;
+        p = put_zeros(out, col.out, pad);
         left -= 1;
     }
     Through { from: i, out: p }
 }
 
-// The n elements that stand at `at`, of the type that stands at `o`, each with its padding behind it.
+// The n elements that stand at `at`, of the type that stands at `o`, each with its padding behind it. Scalars and vectors are seen to before.
 fn each_element(
     ty: &[u8],
     o: usize,
@@ -163,7 +163,7 @@ fn write_members(
     let mut left = n;
     while 0 < left {
         let start = put_zeros(out, p, pads[q + 1]);
-        let w = write_value(ty, q, pads, depth, s, i, out, start);
+        let w = write_member(ty, q, pads, depth, s, i, out, start);
         q = w.ty;
         i = w.from;
         p = w.out;
@@ -237,6 +237,40 @@ fn write_value(
             }
         }
     }
+}
+
+// A member: the same, without the walk where it is a scalar or a vector.
+fn write_member(
+    ty: &[u8],
+    o: usize,
+    pads: &[u8],
+    depth: u8,
+    s: &[u8],
+    at: usize,
+    out: &mut [u8],
+    to: usize,
+) -> Moved
+    requires { ⌜ ValueRoom depth (now ty) o (now pads) (now s) at (now out) to ⌝ }
+    ensures { λ r. ⌜ ValueMoved depth (now (ty .entry)) o (now (pads .entry)) (now (s .entry)) at (now (out .entry)) to (r .ty) (r .from) (r .out) (now (out .exit)) ⌝ }
+{
+    let h = ty::head_at(ty, o, depth);
+    if let Head::Scalar(k) = h {
+        let w = write_literals(s, at, 1, k, out, to);
+        return Moved {
+            ty: o + 3,
+            from: w.from,
+            out: w.out,
+        };
+    }
+    if let Head::Vector(n, k) = h {
+        let w = write_literals(s, at + 3, record::count(n), k, out, to);
+        return Moved {
+            ty: o + 6,
+            from: w.from,
+            out: w.out,
+        };
+    }
+    write_value(ty, o, pads, depth, s, at, out, to)
 }
 
 // ---- the entry

@@ -16,11 +16,11 @@ use Rattle.inst.proofs.columns.Statement.{statement}
 use Rattle.inst.proofs.columns.Tie as tie
 
 abbrev Inv : tie.InvT-loop
-Inv s at c r k i₀ left₀ i left =
-    (i ≤ length s) × ((j : Kind) → k ≡ kindNo j → Same (FitsAll s i (copies left (Tv r j))) (FitsAll s at (copies c (Tv r j))))
+Inv s at n r k i₀ left₀ i left =
+    (i ≤ length s) × ((j : Kind) → k ≡ kindNo j → Same (FitsAll s i (copies left (Tv r j))) (FitsAll s at (copies n (Tv r j))))
 
 abbrev μ : tie.MeasureT-loop
-μ s at c r k i₀ left₀ i left = left
+μ s at n r k i₀ left₀ i left = left
 
 pub columns-spec : {M : Type 1} → statement M
 columns-spec =

@@ -1,5 +1,5 @@
--- `value_as` calls `elements_as` and `members_as` at a depth one less, `elements_as` calls `each_as` at its own, and each loop calls `value_as` at its own depth:
--- 3d for `value_as`, 3d + 1 for the loops, 3d + 2 for `elements_as`.
+-- `value_as` calls `elements_as` and `members_as` at a depth one less, `elements_as` calls `each_as` at its own, each loop calls `member_as` at its own depth, and
+-- `member_as` calls `value_as` at its own: 4d for `value_as`, 4d + 1 for `member_as`, 4d + 2 for the loops, 4d + 3 for `elements_as`.
 use mathlib.Core.Path.{_≡_, refl, sym, _∙_, subst}
 use Prim.Native.Nat.{ℕ, _+_, _*_, _≤_, _<_}
 use native.Mathlib.Omega.{arith}
@@ -13,22 +13,26 @@ use Rattle.ty.proofs.Walks.{same-trans}
 use Rattle.inst.specs.Values.{FitsAll, copies}
 use Rattle.inst.specs.Reading.{ReadAs}
 use Rattle.inst.proofs.ValueRows.{holds, fails, each-on, each-none, each-end}
-use Rattle.inst.proofs.ByType.{scalar-kind, vector-kind, matrix-kind, scalar-says, scalars-say, vector-says, matrix-says, array-unlike, array-says, struct-unlike, struct-says}
+use Rattle.inst.proofs.ByType.{scalar-kind, vector-kind, matrix-kind, scalar-says, scalars-say, vector-says, vectors-say, matrix-says, array-unlike, array-says, struct-unlike, struct-says}
 use Rattle.inst.proofs.ByType.{MembersLeft, left-first, left-again, left-none, left-end}
 use borrow.Fn.Kinds.{In}
 use borrow.Fn.PlainCycle.{Measures, is, falls, and}
 use Rattle.inst.proofs.each_as.Reads as each-as
 use Rattle.inst.proofs.each_as.Kinds as each-as-kinds
-use Rattle.inst.proofs.+each_as+elements_as+members_as+value_as.Lts-each_as as each-as-lts
+use Rattle.inst.proofs.+each_as+elements_as+member_as+members_as+value_as.Lts-each_as as each-as-lts
 use Rattle.inst.proofs.elements_as.Reads as elements-as
 use Rattle.inst.proofs.elements_as.Kinds as elements-as-kinds
-use Rattle.inst.proofs.+each_as+elements_as+members_as+value_as.Lts-elements_as as elements-as-lts
+use Rattle.inst.proofs.+each_as+elements_as+member_as+members_as+value_as.Lts-elements_as as elements-as-lts
 use Rattle.inst.proofs.members_as.Reads as members-as
 use Rattle.inst.proofs.members_as.Kinds as members-as-kinds
-use Rattle.inst.proofs.+each_as+elements_as+members_as+value_as.Lts-members_as as members-as-lts
+use Rattle.inst.proofs.+each_as+elements_as+member_as+members_as+value_as.Lts-members_as as members-as-lts
 use Rattle.inst.proofs.value_as.Reads as value-as
 use Rattle.inst.proofs.value_as.Kinds as value-as-kinds
-use Rattle.inst.proofs.+each_as+elements_as+members_as+value_as.Lts-value_as as value-as-lts
+use Rattle.inst.proofs.+each_as+elements_as+member_as+members_as+value_as.Lts-value_as as value-as-lts
+use Rattle.inst.proofs.member_as.Reads as member-as
+use Rattle.inst.proofs.member_as.Kinds as member-as-kinds
+use Rattle.inst.proofs.+each_as+elements_as+member_as+members_as+value_as.Lts-member_as as member-as-lts
+use Rattle.inst.proofs.columns.Reads as columns-reads
 use Rattle.inst.proofs.four_at.Reads as four-at-reads
 use Rattle.record.proofs.high.Reads as high-reads
 use Rattle.inst.proofs.literal_as.Reads as literal-as-reads
@@ -39,11 +43,11 @@ use Rattle.inst.proofs.struct_starts.Reads as struct-starts-reads
 use Rattle.inst.proofs.vector_as.Reads as vector-as-reads
 use Rattle.inst.proofs.with_type.Reads as with-type-reads
 use Rattle.ty.proofs.head_at.Reads as head-at-reads
-use Rattle.inst.proofs.+each_as+elements_as+members_as+value_as.{statement}
-use Rattle.inst.proofs.+each_as+elements_as+members_as+value_as.Tie.{close}
+use Rattle.inst.proofs.+each_as+elements_as+member_as+members_as+value_as.{statement}
+use Rattle.inst.proofs.+each_as+elements_as+member_as+members_as+value_as.Tie.{close}
 
 abbrev μ-each-as : Measures 2 each-as-kinds.ps ℕ
-μ-each-as κs a = 3 * a .1 .1 .1 .1 .1 .0 + 1
+μ-each-as κs a = 4 * a .1 .1 .1 .1 .1 .0 + 2
 
 abbrev each-as-at : ℕ → In 2 each-as-kinds.ps
 each-as-at t = and 2 each-as-kinds.ps (is 2 each-as-kinds.ps μ-each-as t) each-as.Pre
@@ -52,7 +56,7 @@ abbrev each-as-below : ℕ → In 2 each-as-kinds.ps
 each-as-below t = and 2 each-as-kinds.ps (falls 2 each-as-kinds.ps _<_ μ-each-as t) each-as.Pre
 
 abbrev μ-elements-as : Measures 2 elements-as-kinds.ps ℕ
-μ-elements-as κs a = 3 * a .1 .1 .1 .1 .1 .0 + 2
+μ-elements-as κs a = 4 * a .1 .1 .1 .1 .1 .0 + 3
 
 abbrev elements-as-at : ℕ → In 2 elements-as-kinds.ps
 elements-as-at t = and 2 elements-as-kinds.ps (is 2 elements-as-kinds.ps μ-elements-as t) elements-as.Pre
@@ -61,7 +65,7 @@ abbrev elements-as-below : ℕ → In 2 elements-as-kinds.ps
 elements-as-below t = and 2 elements-as-kinds.ps (falls 2 elements-as-kinds.ps _<_ μ-elements-as t) elements-as.Pre
 
 abbrev μ-members-as : Measures 2 members-as-kinds.ps ℕ
-μ-members-as κs a = 3 * a .1 .1 .1 .1 .1 .0 + 1
+μ-members-as κs a = 4 * a .1 .1 .1 .1 .1 .0 + 2
 
 abbrev members-as-at : ℕ → In 2 members-as-kinds.ps
 members-as-at t = and 2 members-as-kinds.ps (is 2 members-as-kinds.ps μ-members-as t) members-as.Pre
@@ -70,13 +74,22 @@ abbrev members-as-below : ℕ → In 2 members-as-kinds.ps
 members-as-below t = and 2 members-as-kinds.ps (falls 2 members-as-kinds.ps _<_ μ-members-as t) members-as.Pre
 
 abbrev μ-value-as : Measures 2 value-as-kinds.ps ℕ
-μ-value-as κs a = 3 * a .1 .1 .1 .1 .0
+μ-value-as κs a = 4 * a .1 .1 .1 .1 .0
 
 abbrev value-as-at : ℕ → In 2 value-as-kinds.ps
 value-as-at t = and 2 value-as-kinds.ps (is 2 value-as-kinds.ps μ-value-as t) value-as.Pre
 
 abbrev value-as-below : ℕ → In 2 value-as-kinds.ps
 value-as-below t = and 2 value-as-kinds.ps (falls 2 value-as-kinds.ps _<_ μ-value-as t) value-as.Pre
+
+abbrev μ-member-as : Measures 2 member-as-kinds.ps ℕ
+μ-member-as κs a = 4 * a .1 .1 .1 .1 .0 + 1
+
+abbrev member-as-at : ℕ → In 2 member-as-kinds.ps
+member-as-at t = and 2 member-as-kinds.ps (is 2 member-as-kinds.ps μ-member-as t) member-as.Pre
+
+abbrev member-as-below : ℕ → In 2 member-as-kinds.ps
+member-as-below t = and 2 member-as-kinds.ps (falls 2 member-as-kinds.ps _<_ μ-member-as t) member-as.Pre
 
 -- the elements from i on end where all of them do
 abbrev Each : each-as-lts.InvT-loop
@@ -93,9 +106,9 @@ Members s at n ty o depth i₀ q₀ left₀ i q left = (i ≤ length s) × ((m :
 abbrev μ-members : members-as-lts.MeasureT-loop
 μ-members s at n ty o depth i₀ q₀ left₀ i q left = left
 
-pub +each-as+elements-as+members-as+value-as-spec : {M : Type 1} → statement M
-+each-as+elements-as+members-as+value-as-spec =
-    close μ-each-as μ-elements-as μ-members-as μ-value-as
+pub +each-as+elements-as+member-as+members-as+value-as-spec : {M : Type 1} → statement M
++each-as+elements-as+member-as+members-as+value-as-spec =
+    close μ-each-as μ-elements-as μ-member-as μ-members-as μ-value-as
     (λ t.
     each-as-lts.spec (value-as-below t, value-as.Post) (each-as-at t) each-as.Post Each μ-each
     -- loop-holds
@@ -126,7 +139,7 @@ pub +each-as+elements-as+members-as+value-as-spec : {M : Type 1} → statement M
     let v = l .inv .1 u z w in
     (v .0 (l .i) .0 (each-end (a .s .now) (l .i) (l .left) u (omega arith) (l .inv .0)), λ h. v .1 (λ e. omega arith))))
     (λ t.
-    elements-as-lts.spec (head-at-reads.Asked, head-at-reads.Learnt, literals-reads.Asked, literals-reads.Learnt, with-type-reads.Asked, with-type-reads.Learnt, each-as-below t, each-as.Post) (elements-as-at t) elements-as.Post
+    elements-as-lts.spec (head-at-reads.Asked, head-at-reads.Learnt, literals-reads.Asked, literals-reads.Learnt, with-type-reads.Asked, with-type-reads.Learnt, columns-reads.Asked, columns-reads.Learnt, each-as-below t, each-as.Post) (elements-as-at t) elements-as.Post
     -- head-at-requires
     (λ c κs. c .before .before .pre .1 .0)
     (λ c. search needs)
@@ -140,15 +153,54 @@ pub +each-as+elements-as+members-as+value-as-spec : {M : Type 1} → statement M
     let a = c .before .before .before .before .before .before .before .before .args in
     rw (c .with-type .ensures)
     (scalars-say (a .s .now) (a .at) (a .depth) (a .ty .now) (a .o) u z w (a .n) _ (c .before .literals .result) (sym (c .before .before .before .h .given .1) ∙ c .before .before .before .before .before .head-at .ensures u z w) (c .before .literals .ensures)))
-    -- each-as-requires
-    (λ c κs. (omega (arith, c .before .before .before .before .pre .0), c .before .before .before .before .pre .1))
+    (λ c. search needs)
+    -- columns-requires
+    (λ c κs. let a = c .before .before .before .before .before .before .before .args in (vector-kind (a .depth) (a .ty .now) (a .o) (search) (c .before .before .before .before .head-at .ensures) (c .before .h2 .given .1), c .before .before .before .before .before .before .before .pre .1 .1))
+    (λ c. search needs) (λ c κs. search needs)
     -- returns-2
+    (λ c u z w.
+    let a = c .before .before .before .before .before .before .before .before .before .args in
+    rw (c .with-type2 .ensures)
+    (vectors-say (a .s .now) (a .at) (a .depth) (a .ty .now) (a .o) u z w (a .n) _ _ (c .before .columns .result) (sym (c .before .before .before .h2 .given .1) ∙ c .before .before .before .before .before .before .head-at .ensures u z w) (c .before .columns .ensures)))
+    -- each-as-requires
+    (λ c κs. (omega (arith, c .before .before .before .before .before .pre .0), c .before .before .before .before .before .pre .1))
+    -- returns-3
     (λ c. c .each-as .ensures))
     (λ t.
-    members-as-lts.spec (value-as-below t, value-as.Post) (members-as-at t) members-as.Post Members μ-members
+    member-as-lts.spec
+    (head-at-reads.Asked, head-at-reads.Learnt, literal-as-reads.Asked, literal-as-reads.Learnt, with-type-reads.Asked, with-type-reads.Learnt, vector-as-reads.Asked, vector-as-reads.Learnt, value-as-below t, value-as.Post)
+    (member-as-at t) member-as.Post
+    -- head-at-requires
+    (λ c κs. c .before .before .pre .1)
+    (λ c. search needs)
+    -- literal-as-requires
+    (λ c κs. let a = c .before .before .before .before .before .before .args in scalar-kind (a .depth) (a .ty .now) (a .o) (search) (c .before .before .before .head-at .ensures) (c .before .h .given .1))
+    -- add-with-type
+    (λ c. let a = c .before .before .before .before .before .before .before .args in let p = c .before .before .before .before .before .before .before .pre .1 in record { fits = omega (arith, any-front (p .stands)) })
+    (λ c κs. search needs)
+    -- returns
+    (λ c u z w.
+    let a = c .before .before .before .before .before .before .before .before .args in
+    rw (c .with-type .ensures)
+    (scalar-says (a .s .now) (a .at) (a .depth) (a .ty .now) (a .o) u z w _ (c .before .literal-as .result) (sym (c .before .before .before .h .given .1) ∙ c .before .before .before .before .before .head-at .ensures u z w) (c .before .literal-as .ensures)))
+    (λ c. search needs)
+    -- vector-as-requires
+    (λ c κs. let a = c .before .before .before .before .before .before .before .args in vector-kind (a .depth) (a .ty .now) (a .o) (search) (c .before .before .before .before .head-at .ensures) (c .before .h2 .given .1))
+    (λ c. search needs) (λ c κs. search needs)
+    -- returns-2
+    (λ c u z w.
+    let a = c .before .before .before .before .before .before .before .before .before .args in
+    rw (c .with-type2 .ensures)
+    (vector-says (a .s .now) (a .at) (a .depth) (a .ty .now) (a .o) u z w _ _ (c .before .vector-as .result) (sym (c .before .before .before .h2 .given .1) ∙ c .before .before .before .before .before .before .head-at .ensures u z w) (c .before .vector-as .ensures)))
+    -- value-as-requires
+    (λ c κs. (omega (arith, c .before .before .before .before .before .pre .0), c .before .before .before .before .before .pre .1))
+    -- returns-3
+    (λ c. c .value-as .ensures))
+    (λ t.
+    members-as-lts.spec (member-as-below t, member-as.Post) (members-as-at t) members-as.Post Members μ-members
     -- loop-holds
     (λ c. (c .before .before .pre .1 .1, λ m z w. record { types = m; stands = w; same = λ e. ((λ x. x), λ x. x) }))
-    -- value-as-requires
+    -- member-as-requires
     (λ c κs.
     let a = c .before .before .before .before .args in
     let l = c .before .loop in
@@ -160,13 +212,13 @@ pub +each-as+elements-as+members-as+value-as-spec : {M : Type 1} → statement M
     let a = c .before .before .before .before .before .before .before .args in
     let l = c .before .before .before .before .loop in
     left-none (a .depth) (a .ty .now) (a .s .now) (a .at) m z (l .i) (l .q) (l .left) (l .inv .1 m z w) (c .before .before .before .loop-test .taken)
-    (subst (ReadAs (a .depth) (a .ty .now) (l .q) (a .s .now) (l .i)) (c .enum-told .given .1) (c .before .before .value-as .ensures)))
+    (subst (ReadAs (a .depth) (a .ty .now) (l .q) (a .s .now) (l .i)) (c .enum-told .given .1) (c .before .before .member-as .ensures)))
     (λ c. omega arith) (λ c. omega arith)
     -- loop-again
     (λ c.
     let a = c .before .before .before .before .before .before .before .before .args in
     let l = c .before .before .before .before .before .loop in
-    let v = subst (ReadAs (a .depth) (a .ty .now) (l .q) (a .s .now) (l .i)) (c .before .e .given .1) (c .before .before .before .value-as .ensures) in
+    let v = subst (ReadAs (a .depth) (a .ty .now) (l .q) (a .s .now) (l .i)) (c .before .e .given .1) (c .before .before .before .member-as .ensures) in
     let p = c .before .before .before .before .before .before .before .before .pre .1 .0 in
     let f = left-first (a .depth) (a .ty .now) (a .s .now) (a .at) (p .types) (p .end) (l .i) (l .q) (l .left) (l .inv .1 (p .types) (p .end) (p .stands)) (c .before .before .before .before .loop-test .taken) in (
       v (f .type) (f .end) (f .stands) .0 .within,

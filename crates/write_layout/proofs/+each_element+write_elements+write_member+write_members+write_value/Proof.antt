@@ -1,5 +1,6 @@
--- `write_value` calls the walks over elements and members at a depth one less; `write_elements` calls `each_element`, and this and `write_members` call `write_value`,
--- each at its own depth d: 3d for `write_value`, 3d + 1 for `each_element` and `write_members`, 3d + 2 for `write_elements`.
+-- `write_value` calls the walks over elements and members at a depth one less; `write_elements` calls `each_element`, this and `write_members` call `write_member`, and
+-- `write_member` calls `write_value`, each at its own depth d: 4d for `write_value`, 4d + 1 for `write_member`, 4d + 2 for `each_element` and `write_members`, 4d + 3 for
+-- `write_elements`.
 use mathlib.Core.Path.{_≡_, refl, _∙_}
 use Prim.Native.Nat.{ℕ, _+_, _*_, _<_}
 use native.Mathlib.Omega.{arith}
@@ -17,35 +18,41 @@ use borrow.Fn.Kinds.{In}
 use borrow.Fn.PlainCycle.{Measures, is, falls, and}
 use Rattle.write_layout.proofs.each_element.Reads as each-element
 use Rattle.write_layout.proofs.each_element.Kinds as each-element-kinds
-use Rattle.write_layout.proofs.+each_element+write_elements+write_members+write_value.Lts-each_element as each-element-lts
+use Rattle.write_layout.proofs.+each_element+write_elements+write_member+write_members+write_value.Lts-each_element as each-element-lts
 use Rattle.write_layout.proofs.write_elements.Reads as write-elements
 use Rattle.write_layout.proofs.write_elements.Kinds as write-elements-kinds
-use Rattle.write_layout.proofs.+each_element+write_elements+write_members+write_value.Lts-write_elements as write-elements-lts
+use Rattle.write_layout.proofs.+each_element+write_elements+write_member+write_members+write_value.Lts-write_elements as write-elements-lts
 use Rattle.write_layout.proofs.write_members.Reads as write-members
 use Rattle.write_layout.proofs.write_members.Kinds as write-members-kinds
-use Rattle.write_layout.proofs.+each_element+write_elements+write_members+write_value.Lts-write_members as write-members-lts
+use Rattle.write_layout.proofs.+each_element+write_elements+write_member+write_members+write_value.Lts-write_members as write-members-lts
 use Rattle.write_layout.proofs.write_value.Reads as write-value
 use Rattle.write_layout.proofs.write_value.Kinds as write-value-kinds
-use Rattle.write_layout.proofs.+each_element+write_elements+write_members+write_value.Lts-write_value as write-value-lts
+use Rattle.write_layout.proofs.+each_element+write_elements+write_member+write_members+write_value.Lts-write_value as write-value-lts
+use Rattle.write_layout.proofs.write_member.Reads as write-member
+use Rattle.write_layout.proofs.write_member.Kinds as write-member-kinds
+use Rattle.write_layout.proofs.+each_element+write_elements+write_member+write_members+write_value.Lts-write_member as write-member-lts
 use Rattle.record.proofs.count.Reads as count-reads
 use Rattle.ty.proofs.head_at.Reads as head-at-reads
 use Rattle.write_layout.proofs.put_zeros.Reads as put-zeros-reads
 use Rattle.write_layout.proofs.write_columns.Reads as write-columns-reads
 use Rattle.write_layout.proofs.write_literals.Reads as write-literals-reads
-use Rattle.write_layout.proofs.+each_element+write_elements+write_members+write_value.{statement}
-use Rattle.write_layout.proofs.+each_element+write_elements+write_members+write_value.Tie.{close}
+use Rattle.write_layout.proofs.+each_element+write_elements+write_member+write_members+write_value.{statement}
+use Rattle.write_layout.proofs.+each_element+write_elements+write_member+write_members+write_value.Tie.{close}
 
 abbrev μ-each-element : Measures 4 each-element-kinds.ps ℕ
-μ-each-element κs a = 3 * a .1 .1 .1 .1 .1 .0 + 1
+μ-each-element κs a = 4 * a .1 .1 .1 .1 .1 .0 + 2
 
 abbrev μ-write-elements : Measures 4 write-elements-kinds.ps ℕ
-μ-write-elements κs a = 3 * a .1 .1 .1 .1 .1 .0 + 2
+μ-write-elements κs a = 4 * a .1 .1 .1 .1 .1 .0 + 3
 
 abbrev μ-write-members : Measures 4 write-members-kinds.ps ℕ
-μ-write-members κs a = 3 * a .1 .1 .1 .1 .0 + 1
+μ-write-members κs a = 4 * a .1 .1 .1 .1 .0 + 2
 
 abbrev μ-write-value : Measures 4 write-value-kinds.ps ℕ
-μ-write-value κs a = 3 * a .1 .1 .1 .0
+μ-write-value κs a = 4 * a .1 .1 .1 .0
+
+abbrev μ-write-member : Measures 4 write-member-kinds.ps ℕ
+μ-write-member κs a = 4 * a .1 .1 .1 .0 + 1
 
 abbrev each-element-at : ℕ → In 4 each-element-kinds.ps
 each-element-at t = and 4 each-element-kinds.ps (is 4 each-element-kinds.ps μ-each-element t) each-element.Pre
@@ -71,6 +78,12 @@ write-value-at t = and 4 write-value-kinds.ps (is 4 write-value-kinds.ps μ-writ
 abbrev write-value-below : ℕ → In 4 write-value-kinds.ps
 write-value-below t = and 4 write-value-kinds.ps (falls 4 write-value-kinds.ps _<_ μ-write-value t) write-value.Pre
 
+abbrev write-member-at : ℕ → In 4 write-member-kinds.ps
+write-member-at t = and 4 write-member-kinds.ps (is 4 write-member-kinds.ps μ-write-member t) write-member.Pre
+
+abbrev write-member-below : ℕ → In 4 write-member-kinds.ps
+write-member-below t = and 4 write-member-kinds.ps (falls 4 write-member-kinds.ps _<_ μ-write-member t) write-member.Pre
+
 abbrev Inv-each : each-element-lts.InvT-loop
 Inv-each ty o n pad pads depth s at out₀ to end₀ i₀ p₀ left₀ out end i p left =
     (length out ≡ length out₀) × ((q e : ℕ) (t : Ty) (l : Vals) → Elements depth ty o n pad pads s at q e t l → EachLeft s q e n t l out₀ to end i p left out)
@@ -85,9 +98,9 @@ Inv-all ty o n pads depth s at out₀ to q₀ i₀ p₀ left₀ out q i p left =
 abbrev μ-all : write-members-lts.MeasureT-loop
 μ-all ty o n pads depth s at out₀ to q₀ i₀ p₀ left₀ out q i p left = left
 
-pub +each-element+write-elements+write-members+write-value-spec : {M : Type 1} → statement M
-+each-element+write-elements+write-members+write-value-spec =
-    close μ-each-element μ-write-elements μ-write-members μ-write-value
+pub +each-element+write-elements+write-member+write-members+write-value-spec : {M : Type 1} → statement M
++each-element+write-elements+write-member+write-members+write-value-spec =
+    close μ-each-element μ-write-elements μ-write-member μ-write-members μ-write-value
     (λ t.
     each-element-lts.spec (write-value-below t, write-value.Post, put-zeros-reads.Asked, put-zeros-reads.Learnt) (each-element-at t) each-element.Post Inv-each μ-each
     -- loop-holds
@@ -143,7 +156,40 @@ pub +each-element+write-elements+write-members+write-value-spec : {M : Type 1} �
     -- returns-3
     (λ c. c .before .before .each-element .ensures))
     (λ t.
-    write-members-lts.spec (put-zeros-reads.Asked, put-zeros-reads.Learnt, write-value-below t, write-value.Post) (write-members-at t) write-members.Post Inv-all μ-all
+    write-member-lts.spec
+    (head-at-reads.Asked, head-at-reads.Learnt, write-literals-reads.Asked, write-literals-reads.Learnt, count-reads.Asked, count-reads.Learnt, write-value-below t, write-value.Post)
+    (write-member-at t) write-member.Post
+    -- head-at-requires
+    (λ c κs. search value-stands)
+    (λ c. search needs)
+    -- write-literals-requires
+    (λ c κs. search scalar-room)
+    -- add-t17
+    (λ c. omega (arith, scalar-type (c .before .before .before .before .before .before .before .before .before .before .before .before .pre .1) (c .before .before .before .before .before .before .before .head-at .ensures) (c .before .before .before .before .before .h .given .1)))
+    -- same-length
+    (λ c. c .before .before .write-literals .kept .1 .1 .1 .1 .0)
+    -- returns
+    (λ c q e v x. scalar-done x (c .before .before .before .before .before .before .before .head-at .ensures) (search) (c .before .before .write-literals .ensures))
+    (λ c. search needs)
+    -- add-write-literals
+    (λ c. omega (arith, vector-here (c .before .before .before .before .before .before .before .before .before .pre .1) (c .before .before .before .before .head-at .ensures) (c .before .h2 .given .1)))
+    (λ c κs. search needs)
+    -- write-literals-requires-2
+    (λ c κs. search vector-room)
+    -- add-t18
+    (λ c. omega (arith, vector-type (c .before .before .before .before .before .before .before .before .before .before .before .before .before .before .pre .1) (c .before .before .before .before .before .before .before .before .before .head-at .ensures) (c .before .before .before .before .before .before .h2 .given .1)))
+    -- same-length-2
+    (λ c. c .before .before .write-literals2 .kept .1 .1 .1 .1 .0)
+    -- returns-2
+    (λ c q e v x. vector-done x (c .before .before .before .before .before .before .before .before .before .head-at .ensures) (c .before .before .before .before .before .before .h2 .given .1) (search) (c .before .before .write-literals2 .ensures))
+    -- write-value-requires
+    (λ c κs. (omega (arith, c .before .before .before .before .before .before .before .before .pre .0), c .before .before .before .before .before .before .before .before .pre .1))
+    -- same-length-3
+    (λ c. c .before .before .write-value .kept .1 .1 .1 .1 .1 .1 .0)
+    -- returns-3
+    (λ c. c .before .before .write-value .ensures))
+    (λ t.
+    write-members-lts.spec (put-zeros-reads.Asked, put-zeros-reads.Learnt, write-member-below t, write-member.Post) (write-members-at t) write-members.Post Inv-all μ-all
     -- loop-holds
     (λ c. let a = c .before .before .before .before .args in (refl, λ q e off l x. record { values = l; off = off; are = x; rest = left-all (a .out .now) (a .to) (memMembers off l) }))
     -- add-put-zeros
@@ -155,7 +201,7 @@ pub +each-element+write-elements+write-members+write-value-spec : {M : Type 1} �
     let p = c .before .before .before .before .before .before .before .before .pre .1 in
     let v = c .before .before .before .loop .inv in
     all-pad (v .1 (p .tyEnd) (p .end) (p .off) (p .values) (p .are)) (c .before .before .loop-test .taken) (omega (arith, p .room, v .0)))
-    -- write-value-requires
+    -- write-member-requires
     (λ c κs.
     let p = c .before .before .before .before .before .before .before .before .before .before .before .before .pre .1 in
     let v = c .before .before .before .before .before .before .before .loop .inv in
@@ -163,8 +209,8 @@ pub +each-element+write-elements+write-members+write-value-spec : {M : Type 1} �
     (λ c. omega arith) (λ c. omega arith)
     -- loop-again
     (λ c. let v = c .before .before .before .before .before .before .before .before .before .before .loop .inv in (
-      c .before .before .write-value .kept .1 .1 .1 .1 .1 .1 .0 ∙ (c .before .before .before .before .before .before .put-zeros .kept .0 ∙ v .0),
-      λ q e off l x. all-on (v .1 q e off l x) (c .before .before .before .before .before .before .before .before .before .loop-test .taken) (c .before .before .before .before .before .before .put-zeros .ensures) (c .before .before .write-value .ensures),
+      c .before .before .write-member .kept .1 .1 .1 .1 .1 .1 .0 ∙ (c .before .before .before .before .before .before .put-zeros .kept .0 ∙ v .0),
+      λ q e off l x. all-on (v .1 q e off l x) (c .before .before .before .before .before .before .before .before .before .loop-test .taken) (c .before .before .before .before .before .before .put-zeros .ensures) (c .before .before .write-member .ensures),
     ))
     -- same-length
     (λ c. c .before .loop .inv .0)
