@@ -15,9 +15,10 @@
 #include "routes.h"
 
 enum check { ENDS, SLICE, LIST, CALL, REFUSED, ANSWER, PLACE, BYTES, FIT, ALONE, CHECKS };
+#include "checks.h"
 #include "wrong.h"
 
-static const struct { const char *name, *what; } checks[CHECKS] = {
+static const struct said checks[CHECKS] = {
     [ENDS] = {"ends", "the call ends and touches nothing outside slice, list and buffer"},
     [SLICE] = {"slice", "the slice and its guard are as they were"},
     [LIST] = {"list", "targets, arguments and stages in the list are as they were, and so is its guard"},
@@ -32,15 +33,15 @@ static const struct { const char *name, *what; } checks[CHECKS] = {
 
 enum { REQUIRED = 20000 };
 
-/* which route it is, by its name or its number, how often each check was made and what it found, and the call: vireo_call_batch, or one of wrong.h */
+/* which route it is, by its name or its number, and the call: vireo_call_batch, or one of wrong.h */
 static const char *route_name;
-static uint64_t route_number, held[CHECKS], faults[CHECKS], shown;
+static uint64_t route_number;
 static struct vireo_answer (*batch)(struct batch) = right;
 
 /* ---- faults ---- */
 
 /* a fault of a route; the number of a drawn one and the seed make it again. Returns whether it was printed, so that more can be */
-static int fault(enum check check, const struct route *r)
+static int faulty(enum check check, const struct route *r)
 {
     faults[check]++;
     if (shown++ >= 10) return 0;
@@ -54,7 +55,7 @@ static int fault(enum check check, const struct route *r)
 static int hold(enum check check, int good, const struct route *r)
 {
     held[check]++;
-    return !good && fault(check, r);
+    return !good && faulty(check, r);
 }
 
 static void print_answer(const char *what, struct vireo_answer a)
@@ -66,9 +67,6 @@ static void print_both(const char *what, struct vireo_answer due, struct vireo_a
 /* ---- what is due ---- */
 
 enum { LENT_SLICE, LENT_LIST, LENT_OUT, ALONE_TARGET, ALONE_ARGS, ALONE_OUT, PLACES };
-
-/* what a buffer holds before the call, the guard among it: drawn bytes */
-static uint8_t before[MOST + GUARD];
 
 /* what a route must leave: the call's answer, in the list each job's answer and place, in the buffer the bytes */
 static struct { struct vireo_answer call, answer[JOBS_TAKEN]; size_t at[JOBS_TAKEN]; uint8_t out[MOST]; } due;
@@ -131,19 +129,8 @@ static int alone(const struct route *r, size_t room, int filled)
 
 /* ---- one call ---- */
 
-/* bytes that are lent for a call, and their guard on the side where no forbidden page is; all that a route lends */
-struct lain { uint8_t *at; size_t n; int ends; };
+/* all that a route lends */
 struct loan { struct lain bytes, list, out; };
-static uint8_t *guard_of(struct lain l) { return l.ends ? l.at - GUARD : l.at + l.n; }
-static struct lain lay(int which, const void *bytes, size_t n)
-{
-    struct lain l = {0, n, one_in(2)};
-    l.at = beside_page(which, n, l.ends);
-    memcpy(l.at, bytes, n), memcpy(guard_of(l), before + MOST, GUARD);
-    return l;
-}
-static int guard_kept(struct lain l) { return !memcmp(guard_of(l), before + MOST, GUARD); }
-static int kept_as(struct lain l, const void *bytes) { return guard_kept(l) && !memcmp(l.at, bytes, l.n); }
 
 static int same_part(struct vireo_part p, struct vireo_part q) { return p.start == q.start && p.len == q.len; }
 static int same_named(const struct vireo_job *x, const struct vireo_job *y) { return same_part(x->target, y->target) && same_part(x->args, y->args) && x->stage == y->stage; }
@@ -467,19 +454,10 @@ static void run(uint64_t routes, uint64_t seed)
     end_progress();
 }
 
-/* each planted fault must be noticed by its check */
-static int run_planted(uint64_t routes, uint64_t seed)
+static struct fault plant(int i)
 {
-    int noticed = 0;
-    for (int i = 0; i < WRONG; i++) {
-        memset(faults, 0, sizeof faults), shown = 10;
-        batch = wrong[i].call;
-        run(routes, seed);
-        if (faults[wrong[i].check]) noticed++;
-        else printf("not noticed by '%s': %s\n", checks[wrong[i].check].name, wrong[i].name);
-    }
-    printf("%d faults planted, %d noticed by the check that is there for it, in %" PRIu64 " routes each\n", WRONG, noticed, routes);
-    return noticed != WRONG;
+    batch = wrong[i].call;
+    return (struct fault){wrong[i].name, wrong[i].check};
 }
 
 /* what was met, a line for each group; 16 is typing's alone, and no number lies between 16 and 21 */
@@ -503,29 +481,25 @@ static int print_met(void)
 
 static int report(uint64_t routes, uint64_t seed, double seconds)
 {
-    uint64_t all = 0;
     printf("%" PRIu64 " routes of seed %" PRIu64 " in %.1f s: %.0f a second, %" PRIu64 " jobs\n", routes, seed, seconds, (double)routes / seconds, drawn_jobs);
     int missing = print_met();
-    for (int i = 0; i < CHECKS; i++) {
-        printf("  %-8s %10" PRIu64 " times, %" PRIu64 " faults: %s\n", checks[i].name, held[i], faults[i], checks[i].what);
-        all += faults[i];
-    }
+    uint64_t all = print_checks();
     printf("%" PRIu64 " routes with written answers, %" PRIu64 " answered otherwise; with %" PRIu64 " drawn ones, %" PRIu64 " faults\n", written_down, otherwise, routes, all);
     return all || otherwise || (missing && routes >= REQUIRED);
 }
 
 int main(int argc, char **argv)
 {
-    int plant = argc > 1 && !strcmp(argv[1], "--planted");
-    argc -= plant, argv += plant;
+    int with_faults = argc > 1 && !strcmp(argv[1], "--planted");
+    argc -= with_faults, argv += with_faults;
     if (argc != 3) { fprintf(stderr, "usage: batch [--planted] ROUTES SEED, with the lists on standard input\n"); return 2; }
     uint64_t routes = strtoull(argv[1], 0, 10), seed = strtoull(argv[2], 0, 10);
     read_lists(stdin);
     if (!listed || !routes) { fprintf(stderr, "no lists or no routes\n"); return 2; }
     make_regions(PLACES, SLICE_MOST + GUARD);
-    for (size_t i = 0; i < sizeof before; i++) before[i] = (uint8_t)draw();
+    draw_before();
     catch_signals();
-    if (plant) return run_planted(routes, seed);
+    if (with_faults) return run_planted(WRONG, plant, run, routes, seed, "routes");
     run_written();
     double start = now();
     run(routes, seed);

@@ -4,9 +4,17 @@
 static inline uint64_t below(uint64_t n) { return n ? draw() % n : 0; }
 static inline int one_in(uint64_t n) { return draw() % n == 0; }
 
-/* a row of bytes that can be damaged, and a call: its rows are `target` and `args` of records.h */
-struct row { uint8_t *at; size_t n; };
+/* a call, whose rows can be damaged: they are `target` and `args` of records.h */
 struct call { enum entry entry; int stage; struct row target, args; };
+
+/* a row as hex, a long one cut */
+static inline void print_row(struct row r)
+{
+    enum { PRINTED = 8192 };
+    printf(r.n ? " " : " -");
+    for (size_t i = 0; i < r.n && i < PRINTED; i++) printf("%02x", r.at[i]);
+    if (r.n > PRINTED) printf("..(%zu bytes)", r.n);
+}
 
 static const char *const entry_names[ENTRIES] = {[CONVERT_TO] = "convert_to", [CALL_CTOR] = "call_ctor", [TYPE_CTOR] = "type_ctor", [CONVERSION_RANK] = "conversion_rank"};
 static inline int takes_types(enum entry entry) { return entry == TYPE_CTOR || entry == CONVERSION_RANK; }

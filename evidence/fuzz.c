@@ -14,9 +14,10 @@
 #include "guarded.h"
 
 enum check { ENDS, KEEPS, REFUSED, RECORD, TYPE, FORMED, NUMBER, COUNTS, LENGTH, AGAIN, EXACT, CHECKS };
+#include "checks.h"
 #include "planted.h"
 
-static const struct { const char *name, *what; } checks[CHECKS] = {
+static const struct said checks[CHECKS] = {
     [ENDS] = {"ends", "the call ends and touches nothing outside target, arguments and buffer"},
     [KEEPS] = {"keeps", "target and arguments are as they were"},
     [REFUSED] = {"refused", "a refusal leaves the buffer and its guards; value 0, and no counts but with 8"},
@@ -30,8 +31,8 @@ static const struct { const char *name, *what; } checks[CHECKS] = {
     [EXACT] = {"exact", "a buffer of just the record's length does, and one a byte shorter is 22"},
 };
 
-/* how often each check was made, and what it found; the fault that is planted, if one is */
-static uint64_t held[CHECKS], faults[CHECKS], shown, more_calls;
+/* the calls that try one again; the fault that is planted, if one is */
+static uint64_t more_calls;
 static void (*spoil)(struct made_call);
 
 /* ---- where the bytes of a call lie ---- */
@@ -49,8 +50,7 @@ static uint8_t *place(int which, size_t n, int ends)
     return block[which];
 }
 
-/* what a buffer holds before the call: drawn bytes, the guard on the side where no forbidden page is among them */
-static uint8_t before[MOST + GUARD];
+/* the bytes of guarded.h that a buffer holds before the call, in their order: the guard on the side where no forbidden page is among them */
 static size_t guard_of(void) { return blocks ? 0 : GUARD; }
 static uint8_t *with_guard(uint8_t *out, int ends) { return ends ? out - guard_of() : out; }
 
@@ -63,15 +63,7 @@ static int as_before(uint8_t *out, size_t room, int ends, size_t used)
 
 /* ---- one call ---- */
 
-static void print_row(struct row r)
-{
-    enum { PRINTED = 8192 };
-    printf(r.n ? " " : " -");
-    for (size_t i = 0; i < r.n && i < PRINTED; i++) printf("%02x", r.at[i]);
-    if (r.n > PRINTED) printf("..(%zu bytes)", r.n);
-}
-
-static void fault(enum check check, const struct call *c, size_t room, struct vireo_answer r)
+static void faulty(enum check check, const struct call *c, size_t room, struct vireo_answer r)
 {
     faults[check]++;
     if (shown++ >= 10) return;
@@ -84,7 +76,7 @@ static void fault(enum check check, const struct call *c, size_t room, struct vi
 static void hold(enum check check, int good, const struct call *c, size_t room, struct vireo_answer r)
 {
     held[check]++;
-    if (!good) fault(check, c, room, r);
+    if (!good) faulty(check, c, room, r);
 }
 
 /* the bytes of an accepted record */
@@ -321,50 +313,37 @@ static void run(uint64_t calls, uint64_t seed)
     end_progress();
 }
 
-/* each planted fault must be noticed by its check */
-static int run_planted(uint64_t calls, uint64_t seed)
+static struct fault plant(int i)
 {
-    int noticed = 0;
-    for (int i = 0; i < PLANTED; i++) {
-        memset(faults, 0, sizeof faults), shown = 10;
-        spoil = planted[i].spoil;
-        run(calls, seed);
-        if (faults[planted[i].check]) noticed++;
-        else printf("not noticed by '%s': %s\n", checks[planted[i].check].name, planted[i].name);
-    }
-    printf("%d faults planted, %d noticed by the check that is there for it, in %" PRIu64 " calls each\n", PLANTED, noticed, calls);
-    return noticed != PLANTED;
+    spoil = planted[i].spoil;
+    return (struct fault){planted[i].name, planted[i].check};
 }
 
 static int report(uint64_t calls, uint64_t seed, double seconds)
 {
-    uint64_t all = 0;
     printf("%" PRIu64 " calls of seed %" PRIu64 " in %.1f s: %.0f a second, with %" PRIu64 " more to try some of them again\n",
            calls, seed, seconds, (double)calls / seconds, more_calls);
     print_answers();
     print_missing();
-    for (int i = 0; i < CHECKS; i++) {
-        printf("  %-8s %10" PRIu64 " times, %" PRIu64 " faults: %s\n", checks[i].name, held[i], faults[i], checks[i].what);
-        all += faults[i];
-    }
+    uint64_t all = print_checks();
     printf("%" PRIu64 " calls, damaged and not, %" PRIu64 " faults\n", calls, all);
     return all != 0;
 }
 
 int main(int argc, char **argv)
 {
-    int plant = argc > 1 && !strcmp(argv[1], "--planted");
+    int with_faults = argc > 1 && !strcmp(argv[1], "--planted");
     blocks = argc > 1 && !strcmp(argv[1], "--blocks");
-    argc -= plant || blocks, argv += plant || blocks;
+    argc -= with_faults || blocks, argv += with_faults || blocks;
     if (argc != 3) { fprintf(stderr, "usage: fuzz [--blocks | --planted] CALLS SEED, with the lists on standard input\n"); return 2; }
     uint64_t calls = strtoull(argv[1], 0, 10), seed = strtoull(argv[2], 0, 10);
     read_lists(stdin);
     if (!listed || !calls) { fprintf(stderr, "no lists or no calls\n"); return 2; }
     if (!blocks) make_regions(PLACES, MOST + GUARD);
-    for (size_t i = 0; i < sizeof before; i++) before[i] = (uint8_t)draw();
+    draw_before();
     read_rules();
     catch_signals();
-    if (plant) return run_planted(calls, seed);
+    if (with_faults) return run_planted(PLANTED, plant, run, calls, seed, "calls");
     double start = now();
     run(calls, seed);
     return report(calls, seed, now() - start);

@@ -1,4 +1,5 @@
-/* What the runs over drawn calls share: regions between pages that may not be touched, signals that come back to the call, the progress of a long run, equal answers. */
+/* What the runs over drawn calls share: regions between pages that may not be touched, bytes that are lent there, signals that come back to the call, the progress of a
+ * long run, equal answers. */
 #include <setjmp.h>
 #include <signal.h>
 #include <sys/mman.h>
@@ -20,6 +21,23 @@ static void make_regions(int count, size_t least)
 
 /* n bytes that end at a forbidden page, or begin behind one */
 static uint8_t *beside_page(int which, size_t n, int ends) { return ends ? lent[which].high - n : lent[which].low; }
+
+/* what a lent buffer holds before the call, its guard among it: drawn bytes */
+static uint8_t before[MOST + GUARD];
+static inline void draw_before(void) { for (size_t i = 0; i < sizeof before; i++) before[i] = (uint8_t)draw(); }
+
+/* bytes that are lent for a call, and their guard on the side where no forbidden page is */
+struct lain { uint8_t *at; size_t n; int ends; };
+static inline uint8_t *guard_at(struct lain l) { return l.ends ? l.at - GUARD : l.at + l.n; }
+static inline struct lain lay(int which, const void *bytes, size_t n)
+{
+    struct lain l = {0, n, one_in(2)};
+    l.at = beside_page(which, n, l.ends);
+    memcpy(l.at, bytes, n), memcpy(guard_at(l), before + MOST, GUARD);
+    return l;
+}
+static inline int guard_kept(struct lain l) { return !memcmp(guard_at(l), before + MOST, GUARD); }
+static inline int kept_as(struct lain l, const void *bytes) { return guard_kept(l) && !memcmp(l.at, bytes, l.n); }
 
 /* a signal inside the library comes back to the call; one outside it ends the program */
 static sigjmp_buf back;

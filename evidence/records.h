@@ -11,6 +11,9 @@
 enum { MOST = 1 << 20, GUARD = 64, FILL = 0xa5, ROOM = 65536 };
 static uint8_t target[MOST], args[MOST], space[MOST + 2 * GUARD];
 
+/* a row of bytes */
+struct row { uint8_t *at; size_t n; };
+
 /* the guards, and what lies past the record, are as they were */
 static inline int untouched(size_t room, size_t used)
 {

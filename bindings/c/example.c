@@ -1,5 +1,6 @@
 /* The printed case of document 01: vec2<f32> of the AbstractInt 1, at stage Const, and the same as `i32` arrays with too few elements; then a small route in one call:
- * bore, chainage and valve offsets, and an array that is a valve short, which is refused and does not stop the others.
+ * bore, chainage and valve offsets, and an array that is a valve short, which is refused and does not stop the others. At last the three are a struct, as it lies in a
+ * storage buffer, and the struct is read back from there.
  * gcc -I bindings/c -o example bindings/c/example.c target/staticlib/libvireodesk.a */
 #include <inttypes.h>
 #include <stdio.h>
@@ -44,6 +45,21 @@ static struct vireo_part metres(const double *numbers, size_t count)
     return all;
 }
 
+/* struct Route { bore: f32, chainage: vec3<f32>, valves: array<f32, 3> }, made of the records of its members, which lie one after another */
+static void storage(const uint8_t *members, size_t members_len)
+{
+    static const uint8_t type[] = "Tu\1\0\3\0Ts\5Tv\3Ts\5Ta\3\0Ts\5";
+    const size_t type_len = sizeof type - 1;
+    uint8_t record[128], memory[64], back[128];
+    struct vireo_layout layout = vireo_layout_of(type, type_len);
+    struct vireo_answer made = vireo_call_ctor(VIREO_CONST, type, type_len, members, members_len, record, sizeof record);
+    struct vireo_answer laid = vireo_write_layout(record, made.value, memory, sizeof memory); /* of a refused struct there is no record: 2 */
+    struct vireo_answer read = vireo_read_layout(type, type_len, memory, laid.value, back, sizeof back);
+    printf("layout %" PRIu64 ": size %" PRIu64 ", alignment %" PRIu64 "\nmemory: ", layout.refusal, layout.size, layout.align);
+    show(laid, memory);
+    printf("read back: %s\n", !read.refusal && read.value == made.value && !memcmp(back, record, made.value) ? "the same" : "another");
+}
+
 static void route(void)
 {
     const struct vireo_part f32 = put("Ts\5", 3), vec3 = put("Tv\3Ts\5", 6), array3 = put("Ta\3\0Ts\5", 7);
@@ -64,6 +80,7 @@ static void route(void)
         printf("%s at %zu: ", names[i], jobs[i].at);
         show(jobs[i].answer, out + jobs[i].at);
     }
+    storage(out, whole.value);
 }
 
 int main(void)

@@ -1,5 +1,5 @@
 //! Folds the constants of a small pipeline route in one call and prints their records: the bore, the chainage, the valve offsets, a struct of all
-//! three, and a constant that is refused.
+//! three, and a constant that is refused. Then the struct as it lies in a storage buffer, member by member.
 use std::error::Error;
 
 use vireodesk::{type_ctor, Kind, Literal, Route, Stage, Target, Type, Value};
@@ -22,23 +22,35 @@ fn main() -> Result<(), Box<dyn Error>> {
     route.push(Stage::Const, &Target::Array, &valves);
 
     // The struct's members convert, so all of it is F32. Typing says the same before anything is built.
-    let all = Type::Struct { identity: 1, members: vec![f32, vec3, three.clone()] };
+    let members = [f32, vec3, three.clone()];
+    let all = Type::Struct { identity: 1, members: members.to_vec() };
     let chainage = Value::Vector([0.0, 6204.75, 12410.0].map(Literal::abstract_float).to_vec());
     let parts = [metres(0.508), chainage, Value::Array(valves.to_vec())];
     let types = parts.iter().map(Value::ty).collect::<Result<Vec<_>, _>>()?;
     assert_eq!(type_ctor(&all.clone().into(), &types), Ok(all.clone()));
-    route.push(Stage::Const, &all.into(), &parts);
+    let whole_route = route.push(Stage::Const, &all.clone().into(), &parts);
 
     // A valve too few is refused, not filled up; the other constants are folded all the same.
     route.push(Stage::Const, &three.into(), &valves[..2]);
 
     let names = ["bore", "chainage", "valves", "route", "two valves of three"];
-    for (name, folded) in names.iter().zip(route.fold()?) {
+    let folded = route.fold()?;
+    for (name, folded) in names.iter().zip(&folded) {
         match folded {
             Ok(value) => println!("{name} {}", hex(&value.encode()?)),
             Err(refusal) => println!("{name}: {refusal}"),
         }
     }
+
+    // The bytes that go into the storage buffer. What lies between the members is padding: zero.
+    let value = folded[whole_route].clone()?;
+    let (layout, bytes) = (all.layout()?, value.to_memory()?);
+    println!("storage buffer: {} bytes, aligned to {}", layout.size, layout.align);
+    for ((name, member), at) in names.iter().zip(&members).zip(&layout.members) {
+        let place = *at as usize..(at + member.layout()?.size) as usize;
+        println!("{name} at {at}: {}", hex(&bytes[place]));
+    }
+    assert_eq!(Value::from_memory(&all, &bytes), Ok(value));
     Ok(())
 }
 

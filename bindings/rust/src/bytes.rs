@@ -2,7 +2,11 @@
 //!
 //! They and what they call are inline, so that a caller in another crate pays for the C entry alone.
 
-use crate::{ffi, refusal::judged, Job, Refusal};
+use crate::{
+    ffi,
+    refusal::{judged, judged_extent},
+    Job, Refusal,
+};
 
 /// Building: what the target's constructor makes of the value records in `args`, at stage 0, 1 or 2. Gives the length of the value record at the
 /// front of `out`; the bytes past it stay as they were, and a refusal leaves all of `out` as it was.
@@ -42,4 +46,24 @@ pub fn conversion_rank_bytes(target: &[u8], args: &[u8]) -> Result<u64, Refusal>
 #[inline]
 pub fn call_batch_bytes(bytes: &[u8], jobs: &mut [Job], out: &mut [u8]) -> Result<usize, Refusal> {
     judged(ffi::call_batch(bytes, jobs, out)).map(|length| length as usize)
+}
+
+/// The one value record in `args` as it lies in WGSL's memory layout. Gives its length at the front of `out`, which is exactly its type's size; padding
+/// is zero, and `out` is otherwise left alone as in [`call_ctor_bytes`]. A type that holds a Bool or an abstract kind has no layout (25).
+#[inline]
+pub fn write_layout_bytes(args: &[u8], out: &mut [u8]) -> Result<usize, Refusal> {
+    judged(ffi::write_layout(args, out)).map(|length| length as usize)
+}
+
+/// The value of the target's type that lies in `memory`, whose length is to be the type's size (26); padding makes no difference. Gives the length of
+/// the value record at the front of `out`, which is otherwise left alone as in [`call_ctor_bytes`].
+#[inline]
+pub fn read_layout_bytes(target: &[u8], memory: &[u8], out: &mut [u8]) -> Result<usize, Refusal> {
+    judged(ffi::read_layout(target, memory, out)).map(|length| length as usize)
+}
+
+/// The size and the alignment, in bytes, of the target's type in WGSL's memory layout. A size past 64 bits is 22.
+#[inline]
+pub fn layout_of_bytes(target: &[u8]) -> Result<(u64, u64), Refusal> {
+    judged_extent(ffi::layout_of(target))
 }

@@ -4,6 +4,7 @@
 mod bytes;
 mod ffi;
 mod job;
+mod layout;
 mod literal;
 mod owned;
 mod record;
@@ -13,8 +14,12 @@ mod target;
 mod ty;
 mod value;
 
-pub use bytes::{call_batch_bytes, call_ctor_bytes, conversion_rank_bytes, convert_to_bytes, type_ctor_bytes};
+pub use bytes::{
+    call_batch_bytes, call_ctor_bytes, conversion_rank_bytes, convert_to_bytes, layout_of_bytes, read_layout_bytes,
+    type_ctor_bytes, write_layout_bytes,
+};
 pub use job::{Job, Part, MOST_JOBS};
+pub use layout::Layout;
 pub use literal::{Kind, Literal};
 pub use owned::{call_ctor, conversion_rank, convert_to, type_ctor, LONGEST};
 pub use record::Malformed;

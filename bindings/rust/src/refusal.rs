@@ -1,6 +1,6 @@
 use std::{error, fmt};
 
-use crate::ffi::Answer;
+use crate::ffi::{Answer, Extent};
 
 /// Why a call was refused: one number and, for 8, two counts.
 #[derive(Clone, Copy, Debug, PartialEq, Eq, Hash)]
@@ -11,7 +11,7 @@ pub struct Refusal {
 }
 
 impl Refusal {
-    /// The number, as documents 01 and 02 have it: 1 to 16, or 21 to 24.
+    /// The number, as documents 01 and 02 have it: 1 to 16, or 21 to 26.
     pub fn number(&self) -> u64 {
         self.number
     }
@@ -36,6 +36,15 @@ pub(crate) fn judged(answer: Answer) -> Result<u64, Refusal> {
     }
 }
 
+/// The size and the alignment, or the refusal.
+#[inline]
+pub(crate) fn judged_extent(extent: Extent) -> Result<(u64, u64), Refusal> {
+    match extent {
+        Extent { refusal: 0, size, align } => Ok((size, align)),
+        Extent { refusal: number, .. } => Err(Refusal { number, wanted: 0, given: 0 }),
+    }
+}
+
 impl fmt::Display for Refusal {
     fn fmt(&self, f: &mut fmt::Formatter<'_>) -> fmt::Result {
         let words = match self.number {
@@ -56,9 +65,14 @@ impl fmt::Display for Refusal {
             15 => "integer outside i32 or u32",
             16 => "typing of a runtime-sized array or of an abstract vector type",
             21 => "outside the float's range because the stage is Const",
-            22 => "the record is longer than the buffer",
+            22 => "the record, or the value in memory, is longer than the buffer",
             23 => "more than 256 jobs",
             24 => "a job's part reaches outside the slice, or is empty and begins past its end",
+            25 => {
+                "the type holds a Bool, an abstract kind or a runtime-sized array, which have no memory layout: \
+                 give u32 for Bool, convert what is abstract, count the elements"
+            }
+            26 => "the memory's length isn't the type's size: give just as many bytes as the type's layout says",
             _ => "unknown",
         };
         write!(f, "refusal {}: {words}", self.number)
@@ -73,7 +87,7 @@ mod tests {
 
     #[test]
     fn every_number_has_words() {
-        for number in (1..=16).chain(21..=24) {
+        for number in (1..=16).chain(21..=26) {
             let words = Refusal { number, wanted: 3, given: 2 }.to_string();
             assert!(words.starts_with(&format!("refusal {number}: ")) && !words.ends_with("unknown"), "{words}");
         }
