@@ -246,21 +246,24 @@ pub fn value_as(s: &[u8], at: usize, ty: &[u8], o: usize, depth: u8) -> Derived
     requires { ⌜ Standing depth (now ty) o ⌝ }
     ensures { λ r. ⌜ ReadAs depth (now (ty .entry)) o (now (s .entry)) at r ⌝ }
 {
-    match ty::head_at(ty, o, depth) {
-        Head::Scalar(k) => with_type(literal_as(s, at, k), o + 3),
-        Head::Vector(n, k) => with_type(vector_as(s, at, n, k), o + 6),
-        Head::Matrix(c, r, k) => with_type(matrix_as(s, at, c, r, k), o + 7),
+    // taken anew: their two words are read one by one, not copied at once (docs/DECISIONS.md, 66)
+    let u = &s[..];
+    let t = &ty[..];
+    match ty::head_at(t, o, depth) {
+        Head::Scalar(k) => with_type(literal_as(u, at, k), o + 3),
+        Head::Vector(n, k) => with_type(vector_as(u, at, n, k), o + 6),
+        Head::Matrix(c, r, k) => with_type(matrix_as(u, at, c, r, k), o + 7),
         Head::Array(n) => {
-            if !four_at(s, at, b'a', record::low(n), record::high(n)) {
+            if !four_at(u, at, b'a', record::low(n), record::high(n)) {
                 return Derived::Unfit;
             }
-            elements_as(s, at + 4, n, ty, o + 4, depth - 1)
+            elements_as(u, at + 4, n, t, o + 4, depth - 1)
         }
         Head::Struct(i, n) => {
-            if !struct_starts(s, at, i, n) {
+            if !struct_starts(u, at, i, n) {
                 return Derived::Unfit;
             }
-            members_as(s, at + 6, n, ty, o + 6, depth - 1)
+            members_as(u, at + 6, n, t, o + 6, depth - 1)
         }
     }
 }
