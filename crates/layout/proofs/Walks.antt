@@ -12,7 +12,7 @@ use Rattle.meaning.specs.Trees.{Ty, Ts, Tv, Tm, Ta, Tu, Tys}
 use Rattle.meaning.specs.Records.{tyBytes, tysBytes, side, shapedTy}
 use Rattle.meaning.specs.Layout.{scalarSize, vecAlign, roundUp, alignOf, mostAlign, colStride, sizeOf, pastLast, stride}
 use Rattle.laws.proofs.Back.{and-l, and-r}
-use Rattle.ty.specs.Stands.{Stands, StandAll, Standing}
+use Rattle.ty.specs.Stands.{StandAll, Standing}
 use Rattle.ty.specs.Heads.{headOf, HeadAt}
 use Rattle.ty.specs.declared.Head.{Head}
 use Rattle.ty.specs.declared.Head.the-variants.{Scalar, Vector, Matrix, Array, Struct}

@@ -2,9 +2,9 @@
 use mathlib.Core.Path.{_≡_}
 use mathlib.Core.List.{List}
 use mathlib.Core.Bool.{Bool, true, false}
-use Prim.Native.Nat.{ℕ, _+_, _-_, _*_, _^_, _≤_, _<_}
+use Prim.Native.Nat.{ℕ, _-_, _*_, _^_, _≤_, _<_}
 use lib.Dec.{ltb}
-use lib.ListN.{length, getD, set}
+use lib.ListN.{getD, set}
 use Rattle.meaning.specs.Kinds.{Kind, kindNo}
 use Rattle.meaning.specs.Trees.{Ty, Tys}
 use Rattle.meaning.specs.Layout.{scalarSize, vecAlign, roundUp, alignOf, sizeOf, mostAlign, pastLast}

@@ -69,11 +69,12 @@ unfoldable mutual
   mostAlign [·] = 1
   mostAlign (t ▸ m) = max (alignOf t) (mostAlign m)
 
--- "an array's stride is its element's size rounded up to the element's alignment", of a matrix with columns of r; "members follow one another, each at the next
--- multiple of its alignment", and a struct's "size is rounded up to that" of the struct
+-- the stride of a matrix's columns, each a vector of r
 unfoldable pub colStride : ℕ → Kind → ℕ
 colStride r k = roundUp (vecAlign r k) (r * scalarSize k)
 
+-- an array's size is its count times its stride, "its element's size rounded up to the element's alignment"; "a struct's members follow one another, each at the next
+-- multiple of its alignment", and its size is rounded up to the struct's own
 unfoldable mutual
   pub sizeOf : Ty → ℕ
   sizeOf (Ts k) = scalarSize k

@@ -1,6 +1,6 @@
 -- What the two entries accept, for all bytes: what was written is a value's, as long as its type says and no longer than the buffer, and reads back as the record that was
 -- given; what was read is a well-formed value, and is written again as the same bytes but for the padding.
-use mathlib.Core.Path.{_≡_, refl, sym, ap, _∙_, subst}
+use mathlib.Core.Path.{_≡_, refl, sym, ap, _∙_}
 use mathlib.Core.Option.{Option, none, some}
 use mathlib.Core.List.{List}
 use mathlib.Core.Bool.{Bool, true, false}
@@ -11,7 +11,7 @@ use lib.ListN.{length}
 use Rattle.meaning.specs.Trees.{Ty, Val, Target, Of, Tr, Qa, Qv, Qm, typeOf, valLen}
 use Rattle.meaning.specs.Records.{tyBytes, valBytes, targetBytes, shapedVal, goodTy, goodVal, goodTarget}
 use Rattle.meaning.specs.Read.{readVal, readTarget}
-use Rattle.meaning.specs.Answers.{Result, ok, no, Answer, orNo, need, _>>=_, _>>_}
+use Rattle.meaning.specs.Answers.{ok, Answer, orNo, need, _>>=_, _>>_}
 use Rattle.meaning.specs.Entries.{handVal}
 use Rattle.meaning.specs.Layout.{hasLayout, sizeOf, memBytes, memValue, used, cleared, laidType, writeAnswer, readAnswer}
 use Rattle.laws.proofs.Back.{and-l}

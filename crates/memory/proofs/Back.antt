@@ -7,11 +7,11 @@ use lib.Dec.{T, eqb, eqb→eq}
 use lib.ListN.{length, take, drop, length-append, take-append-drop}
 use lib.Seq.{drop-at}
 use Rattle.meaning.specs.Kinds.{Kind}
-use Rattle.meaning.specs.Trees.{Ty, Ts, Tv, Tm, Ta, Tu, Tys, Val, Vs, Vv, Vm, Va, Vu, Vals, ⟨⟩, _▹_, typeOf, typesOf, first, countVals, valsOf}
+use Rattle.meaning.specs.Trees.{Ty, Tu, Val, Vs, Vv, Vm, Va, Vu, Vals, ⟨⟩, _▹_, typeOf, typesOf, first, countVals, valsOf}
 use Rattle.meaning.specs.Records.{le, joined, columns, every, goodLit, shapedVal, shapedVals, allSame}
 use Rattle.meaning.specs.Read.{flat}
 use Rattle.meaning.specs.Layout.{laidKind, hasLayout, haveLayouts, scalarSize, roundUp, alignOf, colStride, sizeOf, pastLast, stride, zeros}
-use Rattle.meaning.specs.Layout.{memVec, memCol, memBytes, memElements, memMembers, apart, memScalar, memScalars, memValue, memValues}
+use Rattle.meaning.specs.Layout.{memVec, memCol, memBytes, memElements, memMembers, apart, memScalars, memValue, memValues}
 use Rattle.laws.proofs.AgreeConv.{AllTy, all-first}
 use Rattle.laws.proofs.Back.{and-l, and-r}
 use Rattle.laws.proofs.BackVal.{drop-len, take-len, every-take, every-drop}

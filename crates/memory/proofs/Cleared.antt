@@ -1,5 +1,5 @@
 -- What is read from memory and written again is the same bytes but for the padding, which is zero then.
-use mathlib.Core.Path.{_≡_, refl, sym, ap, ap₂, _∙_, subst}
+use mathlib.Core.Path.{_≡_, refl, sym, ap, ap₂, _∙_}
 use mathlib.Core.List.{List, [], _∷_, _++_, map, append-assoc}
 use mathlib.Core.Bool.{Bool, true, false, cond}
 use Prim.Native.Nat.{ℕ, zero, suc, _+_, _-_, _*_, _≤_}
@@ -9,8 +9,8 @@ use lib.Dec.{T}
 use lib.ListN.{length, take, drop, replicate, length-append, length-replicate, length-drop}
 use lib.Seq.{take-at, drop-at, drop-drop, take-add}
 use Rattle.meaning.specs.Kinds.{Kind}
-use Rattle.meaning.specs.Trees.{Ty, Ts, Tv, Tm, Ta, Tu, Tys, [·], _▸_, Val, typeOf, typesOf, valsOf}
-use Rattle.meaning.specs.Records.{le, joined, columns, shapedTy, shapedTys}
+use Rattle.meaning.specs.Trees.{Ty, Ts, Tv, Tm, Ta, Tu, Tys, [·], _▸_, Val, typeOf, valsOf}
+use Rattle.meaning.specs.Records.{joined, columns, shapedTy, shapedTys}
 use Rattle.meaning.specs.Read.{flat}
 use Rattle.meaning.specs.Layout.{scalarSize, roundUp, alignOf, colStride, sizeOf, pastLast, stride, zeros, memVec, memCol, memBytes, memElements, memMembers}
 use Rattle.meaning.specs.Layout.{apart, memScalar, memScalars, memValue, memValues, repeat, used, usedBy, cleared}

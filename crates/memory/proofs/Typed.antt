@@ -1,19 +1,19 @@
 -- What is read from memory by a type is a well-shaped value of that type.
-use mathlib.Core.Path.{_≡_, refl, sym, ap, ap₂, _∙_, subst}
-use mathlib.Core.List.{List, [], _∷_, _++_, map}
+use mathlib.Core.Path.{_≡_, refl, sym, ap, ap₂, _∙_}
+use mathlib.Core.List.{List, map}
 use mathlib.Core.Bool.{_&&_}
-use Prim.Native.Nat.{ℕ, zero, suc, _+_, _*_, _≤_}
+use Prim.Native.Nat.{ℕ, zero, suc, _+_, _*_}
 use native.Mathlib.Omega.{arith}
 use native.Mathlib.Nat.{suc-mul, zero-mul}
 use lib.Dec.{T, eqb, leb, eqb-refl}
-use lib.ListN.{length, drop, getD, length-append, length-map}
+use lib.ListN.{length, drop, length-append, length-map}
 use lib.Seq.{getD-drop}
 use Rattle.meaning.specs.Kinds.{Kind}
-use Rattle.meaning.specs.Trees.{Ty, Ts, Tv, Tm, Ta, Tu, Tys, [·], _▸_, Val, Vs, Vv, Vm, Va, Vu, Vals, typeOf, typesOf, countVals, valsOf, tysList}
+use Rattle.meaning.specs.Trees.{Ty, Ts, Tv, Tm, Ta, Tu, Tys, [·], _▸_, Val, typeOf, typesOf, countVals, valsOf, tysList}
 use Rattle.meaning.specs.Records.{every, goodLit, shapedTy, shapedTys, shapedVal, shapedVals, allSame, u16}
 use Rattle.meaning.specs.Read.{flat}
 use Rattle.meaning.specs.Layout.{laidKind, hasLayout, haveLayouts, scalarSize, roundUp, alignOf, colStride, sizeOf, stride, apart, memScalar, memScalars, memValue, memValues}
-use Rattle.laws.proofs.AgreeConv.{AllTy, all-same, first-all, every-append, true-of}
+use Rattle.laws.proofs.AgreeConv.{AllTy, all-same, first-all, every-append}
 use Rattle.laws.proofs.Back.{and-l, and-r}
 use Rattle.laws.proofs.Same.{both}
 use Rattle.laws.proofs.Sound.{Bytes}

@@ -8,7 +8,7 @@ use native.Mathlib.Omega.{arith}
 use lib.Dec.{T, eqb}
 use lib.ListN.{length}
 use borrow.Author.Tests.{eq-eqb, ne-eqb, not-true, not-false}
-use Rattle.meaning.specs.Trees.{Ty, Target, Of, Tr, typeOf, valLen}
+use Rattle.meaning.specs.Trees.{Ty, Target, Of, typeOf, valLen}
 use Rattle.meaning.specs.Records.{valBytes, shapedVal}
 use Rattle.meaning.specs.Read.{readTarget}
 use Rattle.meaning.specs.Answers.{ok, no, orNo, need, _>>=_, _>>_}

@@ -4,9 +4,9 @@ use mathlib.Core.List.{List, [], _∷_, _++_}
 use Prim.Native.Nat.{ℕ, _+_, _-_, _*_, _≤_, _<_}
 use native.Mathlib.Omega.{arith}
 use native.Mathlib.Nat.{one-mul}
-use lib.ListN.{length, getD}
+use lib.ListN.{getD}
 use Rattle.meaning.specs.Kinds.{Kind, kindNo}
-use Rattle.meaning.specs.Trees.{Ty, Ts, Tv, Tm, Ta, Tu, Tys, [·], _▸_}
+use Rattle.meaning.specs.Trees.{Ty, Ts, Tv, Ta, Tu, Tys, _▸_}
 use Rattle.meaning.specs.Records.{‘V’, ‘m’}
 use Rattle.meaning.specs.Layout.{scalarSize, roundUp, alignOf, mostAlign, colStride, stride, sizeOf, pastLast}
 use Rattle.ty.specs.Heads.{headOf}

@@ -2,11 +2,11 @@
 -- the padding inside it.
 use mathlib.Core.Path.{_≡_}
 use mathlib.Core.List.{List}
-use Prim.Native.Nat.{ℕ, _+_, _-_, _*_, _≤_}
+use Prim.Native.Nat.{ℕ, _-_, _*_, _≤_}
 use lib.Dec.{T, leb}
 use lib.ListN.{length}
 use Rattle.meaning.specs.Kinds.{Kind, kindNo}
-use Rattle.meaning.specs.Trees.{Ty, Tys, Val, Vals, typeOf, typesOf, countVals}
+use Rattle.meaning.specs.Trees.{Ty, Val, Vals, typeOf, typesOf, countVals}
 use Rattle.meaning.specs.Records.{joined, litBytes, vecBytes, every, goodLit, valsBytes, shapedVals}
 use Rattle.meaning.specs.Answers.{Answer, ok, need, _>>_}
 use Rattle.meaning.specs.Layout.{hasLayout, scalarSize, colStride, stride, sizeOf, memVec, memCol, memBytes, memElements, memMembers}
