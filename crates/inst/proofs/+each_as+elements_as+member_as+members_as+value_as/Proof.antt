@@ -1,5 +1,5 @@
--- `value_as` calls `elements_as` and `members_as` at a depth one less, `elements_as` calls `each_as` at its own, each loop calls `member_as` at its own depth, and
--- `member_as` calls `value_as` at its own: 4d for `value_as`, 4d + 1 for `member_as`, 4d + 2 for the loops, 4d + 3 for `elements_as`.
+-- `value_as` calls `elements_as` and `members_as` at a depth one less; `elements_as` calls `each_as`, `members_as` calls `member_as`, and these two call `value_as`,
+-- each at its own depth d: 4d for `value_as`, 4d + 1 for `member_as`, 4d + 2 for the loops, 4d + 3 for `elements_as`.
 use mathlib.Core.Path.{_≡_, refl, sym, _∙_, subst}
 use Prim.Native.Nat.{ℕ, _+_, _*_, _≤_, _<_}
 use native.Mathlib.Omega.{arith}

@@ -1,5 +1,5 @@
--- `read_value` calls `read_elements` and `read_members` at a depth one less, `read_elements` calls `each_element` at its own, each loop calls `read_member` at its own,
--- and that calls `read_value` at its own: 4d for `read_value`, 4d + 1 for `read_member`, 4d + 2 for the loops, 4d + 3 for `read_elements`.
+-- `read_value` calls `read_elements` and `read_members` at a depth one less; `read_elements` calls `each_element`, `read_members` calls `read_member`, and these two call
+-- `read_value`, each at its own depth d: 4d for `read_value`, 4d + 1 for `read_member`, 4d + 2 for the loops, 4d + 3 for `read_elements`.
 use Prim.Native.Nat.{ℕ, _+_, _*_, _<_}
 use native.Mathlib.Omega.{arith}
 use borrow.Author.Needs.{needs}

@@ -1,6 +1,5 @@
--- `write_value` calls the walks over elements and members at a depth one less; `write_elements` calls `each_element`, this and `write_members` call `write_member`, and
--- `write_member` calls `write_value`, each at its own depth d: 4d for `write_value`, 4d + 1 for `write_member`, 4d + 2 for `each_element` and `write_members`, 4d + 3 for
--- `write_elements`.
+-- `write_value` calls `write_elements` and `write_members` at a depth one less; `write_elements` calls `each_element`, `write_members` calls `write_member`, and these two
+-- call `write_value`, each at its own depth d: 4d for `write_value`, 4d + 1 for `write_member`, 4d + 2 for the loops, 4d + 3 for `write_elements`.
 use mathlib.Core.Path.{_≡_, refl, _∙_}
 use Prim.Native.Nat.{ℕ, _+_, _*_, _<_}
 use native.Mathlib.Omega.{arith}
