@@ -218,8 +218,8 @@ static void expect(const char *what, size_t room, uint64_t refusal)
 static struct vireo_answer ok(uint64_t n) { return (struct vireo_answer){0, n, 0, 0}; }
 static struct vireo_answer no(uint64_t refusal) { return (struct vireo_answer){refusal, 0, 0, 0}; }
 
-/* the parts that the routes below are made of: types, one AbstractInt, two of them side by side, and what is no record */
-static struct vireo_part f32, vec2, array3, one, two, bad, none;
+/* the parts that the routes below are made of: types, one AbstractInt, two of them side by side, an AbstractFloat past F32, and what is no record */
+static struct vireo_part f32, vec2, array3, one, two, far, bad, none;
 static void write_slice(void)
 {
     written.n = 0;
@@ -227,6 +227,7 @@ static void write_slice(void)
     f32 = (struct vireo_part){vec2.start + 3, 3}; /* the end of vec2 */
     one = put_in("Vs\1\1\0\0\0\0\0\0\0", 11), put_in("Vs\1\2\0\0\0\0\0\0\0", 11);
     two = (struct vireo_part){one.start, 22};
+    far = put_in("Vs\2\0\0\0\0\0\0\360\107", 11); /* 2^128 */
     none = (struct vireo_part){written.n, 0};
 }
 
@@ -266,6 +267,7 @@ static void refused_among(void)
     job(vec2, two, 255, no(3)), job(vec2, two, 1, ok(25)), job(none, none, 0, no(1)), job(bad, bad, 3, no(3)), job(f32, none, 2, ok(11));
     expect("refused in a row", ROOM, 0);
     job(f32, one, 3, no(3)), job(f32, (struct vireo_part){none.start + 1, 0}, 3, no(3)), expect("stage 3 and a part outside", ROOM, 24);
+    job(f32, far, 0, no(21)), job(f32, far, 1, no(21)), job(f32, far, 2, ok(11)), expect("past F32 at each stage", ROOM, 0);
     /* what is too long for the rest is refused, and a shorter record then has its place */
     job(vec2, one, 0, no(22)), job(f32, one, 0, ok(11)), job(vec2, one, 0, no(22)), job(f32, none, 0, ok(11)), job(f32, none, 0, no(22)), expect("a shorter one", 24, 0);
     job(f32, one, 0, no(22)), job(bad, one, 0, no(1)), job(vec2, one, 0, no(22)), expect("a buffer of 10", 10, 0);

@@ -1,7 +1,7 @@
 /* The third demand of document 00 on the answers of the two entries, from standard input: the `call_ctor` lines of the lists, each at all three stages.
  *
  * Typing gets the types of the arguments, worked out from their records by reader.h, and building the arguments; the target is the same. Whether every literal fits is
- * worked out here, from the words of document 01 and with the machine's own floats, so that "exactly when" is tried in both directions. The lists' own answers
+ * worked out here, from the words of documents 01 and 02 and with the machine's own floats, so that "exactly when" is tried in both directions. The lists' own answers
  * are not used. Exits 1 where anything is against the demand, or where no value was built.
  */
 #include <float.h>
@@ -33,7 +33,7 @@ static int fits(const uint8_t *v, int kind, struct step by)
     if (from == kind || from == 0 || kind == 0) return 1;
     if (kind == 3) return from != 1 || (number(v) >= INT32_MIN && number(v) <= INT32_MAX);
     if (kind == 4) return from != 1 || (number(v) >= 0 && number(v) <= UINT32_MAX);
-    if (by.made && by.stage != 0) return 1;
+    if (by.made && by.stage == 2) return 1; /* 21 is said at Const and, by document 02, at Override */
     if (kind == 5) return from != 2 || (by.made ? fabs(number(v)) <= FLT_MAX : fabs(number(v)) < 0x1.ffffffp127);
     if (kind == 6) return by.made ? fabs(number(v)) <= 65504 : fabs(number(v)) < 65520;
     return 1;

@@ -16,7 +16,7 @@
 enum { BOOL, ABSTRACT_INT, ABSTRACT_FLOAT, I32, U32, F32, F16 };
 enum { CONST, OVERRIDE, EXEC };
 
-/* of the static library; crates/evidence says what each promises */
+/* of the static library; crates/literal_c says what each promises */
 uint64_t vireo_f64_to_f32(uint64_t x);
 uint64_t vireo_f64_to_f16(uint64_t x);
 uint64_t vireo_f32_to_f16(uint64_t x);
@@ -159,8 +159,10 @@ static void one_f64(struct tally *t, uint64_t b)
     same16(&t[3], b, vireo_made(EXEC, F16, ABSTRACT_FLOAT, b), twice);
     int in32 = d >= -(double)3.40282346638528859811704183484516925e38f && d <= (double)3.40282346638528859811704183484516925e38f;
     int in16 = d >= -65504.0 && d <= 65504.0;
-    same(&t[4], b, vireo_refusal(CONST, F32, ABSTRACT_FLOAT, b), in32 ? 0 : 21);
-    same(&t[5], b, vireo_refusal(CONST, F16, ABSTRACT_FLOAT, b), in16 ? 0 : 21);
+    for (uint8_t stage = CONST; stage <= OVERRIDE; stage++) {
+        same(&t[4], b, vireo_refusal(stage, F32, ABSTRACT_FLOAT, b), in32 ? 0 : 21);
+        same(&t[5], b, vireo_refusal(stage, F16, ABSTRACT_FLOAT, b), in16 ? 0 : 21);
+    }
     int fits32 = !nan32(w32) && !inf32(w32), fits16 = !nan16(w16) && !inf16(w16);
     same(&t[6], b, vireo_fits(F32, ABSTRACT_FLOAT, b), fits32);
     same(&t[7], b, vireo_fits(F16, ABSTRACT_FLOAT, b), fits16);
@@ -183,7 +185,7 @@ static void one_i64(struct tally *t, uint64_t b)
     same(&t[3], b, vireo_fits(F16, ABSTRACT_INT, b), !inf16(w16));
     same(&t[4], b, vireo_made(EXEC, F32, ABSTRACT_INT, b), w32);
     same(&t[5], b, vireo_made(EXEC, F16, ABSTRACT_INT, b), w16);
-    same(&t[6], b, vireo_refusal(CONST, F16, ABSTRACT_INT, b), n >= -65504 && n <= 65504 ? 0 : 21);
+    for (uint8_t stage = CONST; stage <= OVERRIDE; stage++) same(&t[6], b, vireo_refusal(stage, F16, ABSTRACT_INT, b), n >= -65504 && n <= 65504 ? 0 : 21);
     int in_i = n >= INT32_MIN && n <= INT32_MAX, in_u = n >= 0 && n <= UINT32_MAX;
     same(&t[7], b, vireo_refusal(EXEC, I32, ABSTRACT_INT, b), in_i ? 0 : 15);
     same(&t[8], b, vireo_refusal(EXEC, U32, ABSTRACT_INT, b), in_u ? 0 : 15);
@@ -200,11 +202,11 @@ static void one_i64(struct tally *t, uint64_t b)
 
 static void random_ones(uint64_t count, uint64_t seed)
 {
-    struct tally d[] = {{"f64 to f32", 0, 0}, {"f64 to f16", 0, 0}, {"f32(f64)", 0, 0}, {"f16(f64), two roundings", 0, 0}, {"f32(f64) at Const", 0, 0},
-        {"f16(f64) at Const", 0, 0}, {"f64 fits f32", 0, 0}, {"f64 fits f16", 0, 0}, {"f64 converted to f32", 0, 0}, {"f64 converted to f16", 0, 0},
+    struct tally d[] = {{"f64 to f32", 0, 0}, {"f64 to f16", 0, 0}, {"f32(f64)", 0, 0}, {"f16(f64), two roundings", 0, 0}, {"f32(f64) in range", 0, 0},
+        {"f16(f64) in range", 0, 0}, {"f64 fits f32", 0, 0}, {"f64 fits f16", 0, 0}, {"f64 converted to f32", 0, 0}, {"f64 converted to f16", 0, 0},
         {"i32(f64)", 0, 0}, {"u32(f64)", 0, 0}, {"bool(f64)", 0, 0}};
     struct tally n[] = {{"i64 converted to f64", 0, 0}, {"i64 converted to f32", 0, 0}, {"i64 converted to f16", 0, 0}, {"i64 fits f16", 0, 0}, {"f32(i64)", 0, 0},
-        {"f16(i64)", 0, 0}, {"f16(i64) at Const", 0, 0}, {"i32(i64) in range", 0, 0}, {"u32(i64) in range", 0, 0}, {"i64 converted to i32", 0, 0},
+        {"f16(i64)", 0, 0}, {"f16(i64) in range", 0, 0}, {"i32(i64) in range", 0, 0}, {"u32(i64) in range", 0, 0}, {"i64 converted to i32", 0, 0},
         {"i64 converted to u32", 0, 0}, {"f32(i32)", 0, 0}, {"f32(u32)", 0, 0}, {"f16(i32)", 0, 0}, {"f16(u32)", 0, 0}, {"i32(u32)", 0, 0}, {"bool(i64)", 0, 0}};
     double start = now();
     state = seed;

@@ -1,4 +1,4 @@
-/* Damaged calls to the four entries of the C library, against what document 01 says of every call.
+/* Damaged calls to the four entries of the C library, against what document 01, and for the stages document 02, says of every call.
  *
  *   fuzz CALLS SEED            target, arguments and buffer lie beside a page that may not be touched: before it or, half of the calls, behind it
  *   fuzz --blocks CALLS SEED   they are blocks of just their length, for valgrind
@@ -13,7 +13,7 @@
 #include "damage.h"
 #include "guarded.h"
 
-enum check { ENDS, KEEPS, REFUSED, RECORD, TYPE, FORMED, NUMBER, COUNTS, LENGTH, AGAIN, EXACT, CHECKS };
+enum check { ENDS, KEEPS, REFUSED, RECORD, TYPE, FORMED, NUMBER, COUNTS, LENGTH, AGAIN, STAGES, EXACT, CHECKS };
 #include "checks.h"
 #include "planted.h"
 
@@ -28,6 +28,7 @@ static const struct said checks[CHECKS] = {
     [COUNTS] = {"counts", "8 carries the count wanted and the count given"},
     [LENGTH] = {"length", "the record is as long as its type says, and 22 is said only where the buffer is shorter"},
     [AGAIN] = {"again", "the same call with its bytes elsewhere gives the same answer and the same record"},
+    [STAGES] = {"stages", "the same call at Const and at Override gives one answer and one record"},
     [EXACT] = {"exact", "a buffer of just the record's length does, and one a byte shorter is 22"},
 };
 
@@ -244,6 +245,18 @@ static void try_again(const struct call *c, size_t room, int ends, struct vireo_
     if (attempt(c, room, !ends, !blocks, &r, &out)) hold(AGAIN, same(first, r) && !memcmp(out, record, written(c, first)), c, room, r);
 }
 
+/* a building call at Const or Override, at the other of the two: "gets one result" */
+static void try_other_stage(const struct call *c, size_t room, int ends, struct vireo_answer first, const uint8_t *record)
+{
+    struct call other = *c;
+    struct vireo_answer r;
+    uint8_t *out;
+    if (c->entry != CALL_CTOR || c->stage > 1) return;
+    other.stage = 1 - c->stage;
+    more_calls++;
+    if (attempt(&other, room, ends, 1, &r, &out)) hold(STAGES, same(first, r) && !memcmp(out, record, written(c, first)), &other, room, r);
+}
+
 /* the call with a buffer of just the record's length, and with one a byte shorter; after a 22 there is no record to compare with */
 static void try_exact(const struct call *c, size_t n, int ends, struct vireo_answer first, const uint8_t *record)
 {
@@ -273,6 +286,7 @@ static void try_call(const struct call *c)
     if (!repeated) return;
     memcpy(record, out, written(c, r));
     try_again(c, room, ends, r, record);
+    try_other_stage(c, room, ends, r, record);
     if (written(c, r) || (r.refusal == 22 && read.length <= MOST)) try_exact(c, r.refusal ? (size_t)read.length : r.value, ends, r, record);
 }
 

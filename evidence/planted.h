@@ -28,10 +28,13 @@ static void longer_than_buffer(struct made_call m) { if (accepted(m)) m.answer->
 static void other_kind(struct made_call m) { if (literal_made_of(m, 5)) m.out[2] = 4; }
 static void rank_of_eight(struct made_call m) { if (m.call->entry == CONVERSION_RANK && !m.answer->refusal) m.answer->value = 8; }
 static void rank_for_equal(struct made_call m) { if (m.call->entry == CONVERSION_RANK && !m.answer->refusal && !m.answer->value) m.answer->value = 3; }
-static void stage_three_passes(struct made_call m)
+static void at_exec_instead(struct made_call m, int stage)
 {
-    if (m.call->stage == 3) *m.answer = entered(m.call->entry, 2, m.target, m.call->target.n, m.args, m.call->args.n, m.out, m.room);
+    if (m.call->stage == stage) *m.answer = entered(m.call->entry, 2, m.target, m.call->target.n, m.args, m.call->args.n, m.out, m.room);
 }
+static void stage_three_passes(struct made_call m) { at_exec_instead(m, 3); }
+static void override_as_exec(struct made_call m) { at_exec_instead(m, 1); }
+static void const_as_exec(struct made_call m) { at_exec_instead(m, 0); }
 static void two_before_one(struct made_call m) { answer_instead(m, 1, 2); }
 static void nine_for_two(struct made_call m) { answer_instead(m, 2, 9); }
 static void one_for_nine(struct made_call m) { answer_instead(m, 9, 1); }
@@ -85,5 +88,7 @@ static const struct { const char *name; enum check check; void (*spoil)(struct m
     {"22 for a buffer that is just long enough", EXACT, exact_is_too_long},
     {"a record cut to the buffer", EXACT, too_short_passes},
     {"another answer the second time", AGAIN, now_and_then_another},
+    {"Override passes what Const refuses", STAGES, override_as_exec},
+    {"Const passes what Override refuses", STAGES, const_as_exec},
 };
 enum { PLANTED = sizeof planted / sizeof *planted };

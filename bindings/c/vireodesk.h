@@ -12,9 +12,9 @@
  * Refusals: 1 bad target record; 2 bad argument; 3 stage over 2; 4 not constructible; 5 scalar with two or more arguments; 6 scalar given a non-scalar; 7 shape or type
  * mismatch; 8 count (`wanted` and `given` say which); 9 doesn't convert; 10 no common type, or a component that doesn't convert; 11 arguments needed; 12 vector part not
  * scalar; 13 floats needed; 14 column length; 15 integer outside i32 or u32; 16 typing only: a runtime-sized array, or an abstract vector type; 21 outside the float's
- * range because the stage is Const; 22 the accepted record, or value in memory, is longer than the lent buffer; of a whole batch: 23 more than 256 jobs; 24 a job's part
- * reaches outside the slice, or is empty and begins past its end; of the memory layout: 25 the type holds Bool, an abstract kind or a runtime-sized array; 26 the memory's
- * length isn't the type's size.
+ * range because the stage is Const or Override; 22 the accepted record, or value in memory, is longer than the lent buffer; of a whole batch: 23 more than 256 jobs; 24 a
+ * job's part reaches outside the slice, or is empty and begins past its end; of the memory layout: 25 the type holds Bool, an abstract kind or a runtime-sized array; 26
+ * the memory's length isn't the type's size.
  */
 #ifndef VIREODESK_H
 #define VIREODESK_H
@@ -33,6 +33,8 @@ struct vireo_answer {
     uint64_t refusal, value, wanted, given;
 };
 
+/* The stages: in a constant expression, when the pipeline is made, while the shader runs. At Const and at Override f32 and f16 refuse a number outside their range, NaN too
+ * (21), and the same call gives one result at both: the same answer and the same bytes. At Exec they take every number, and may give an infinity or NaN. */
 enum { VIREO_CONST = 0, VIREO_OVERRIDE = 1, VIREO_EXEC = 2 };
 
 /* Building: what the target's constructor makes of the arguments, value records one after another, at a stage. The result is a value record.

@@ -1,8 +1,8 @@
-//! The class of a call: which departure of document 01, if any, it shows. Decided from the call
-//! and from the Rust's own answers, never from other code.
+//! The class of a call: which departure of documents 01 and 02, if any, it shows. Decided from the
+//! call and from the Rust's own answers, never from other code.
 
 use crate::{
-    Instance, Type,
+    Instance, ShaderStage, Type,
     call::{Answer, Decoded, Outcome, TypingTarget, encode, run_caught},
     half_float::{Rounding, with_rounding},
     inst::LiteralInstance,
@@ -18,10 +18,12 @@ pub enum Class {
     NanBits,
     Half,
     Wrap,
+    Override,
 }
 
 impl Class {
-    pub const ALL: [Class; 6] = [Class::Same, Class::Rows, Class::NanFits, Class::NanBits, Class::Half, Class::Wrap];
+    pub const ALL: [Class; 7] =
+        [Class::Same, Class::Rows, Class::NanFits, Class::NanBits, Class::Half, Class::Wrap, Class::Override];
 
     pub fn name(self) -> &'static str {
         match self {
@@ -31,13 +33,27 @@ impl Class {
             Class::NanBits => "nan-bits",
             Class::Half => "half",
             Class::Wrap => "wrap",
+            Class::Override => "override",
         }
     }
 }
 
-/// Runs a call and finds its class. The answer is the one by gcc's rounding where the two
-/// roundings from f64 to f16 differ; elsewhere there is one answer.
+/// Runs a call and finds its class. At Override the answer is the Rust's at Const, and the class
+/// says where its own is another.
 pub fn classified(call: &Decoded) -> (Class, Answer) {
+    let Some(at_const) = at_const(call) else {
+        return departure(call);
+    };
+    let (class, answer) = departure(&at_const);
+    if class == Class::Same && encode(&run_caught(call)) != answer {
+        return (Class::Override, answer);
+    }
+    (class, answer)
+}
+
+/// The class by document 01. The answer is the one by gcc's rounding where the two roundings from
+/// f64 to f16 differ; elsewhere there is one answer.
+fn departure(call: &Decoded) -> (Class, Answer) {
     let (by_half, rounded) = with_rounding(Rounding::Half, || run_caught(call));
     let answer = encode(&by_half);
     if nan_fits(call, &answer) {
@@ -61,6 +77,20 @@ pub fn classified(call: &Decoded) -> (Class, Answer) {
 
 fn gcc_answer(call: &Decoded) -> Answer {
     encode(&with_rounding(Rounding::Gcc, || run_caught(call)).0)
+}
+
+// --------
+// override
+// --------
+
+/// A building call at Override, as it is at Const; `None` for every other call.
+fn at_const(call: &Decoded) -> Option<Decoded> {
+    match call {
+        Decoded::CallCtor { stage: ShaderStage::Override, target, args } => {
+            Some(Decoded::CallCtor { stage: ShaderStage::Const, target: target.clone(), args: args.clone() })
+        }
+        _ => None,
+    }
 }
 
 // ----

@@ -1,8 +1,8 @@
-//! The records that are read are written back byte for byte, and the named cases of document 01.
+//! The records that are read are written back byte for byte, the source's own answers at Override, and the named cases of document 01.
 
 use reference::{
-    call::{Call, Decoded, Entry, decode},
-    classes::classified,
+    call::{Call, Decoded, Entry, answer, decode},
+    classes::{Class, classified},
     generate,
     hex::from_hex,
     records::{read_target, write_target, write_type, write_value},
@@ -38,6 +38,22 @@ fn calls_follow_from_the_seed() {
     assert_ne!(list(1), list(2));
 }
 
+/// At Override the source answers as at Exec, and lists take its answer at Const: the class `override` is where the two differ.
+#[test]
+fn override_is_the_sources_exec() {
+    let mut differing = 0;
+    for call in generate::calls(7, 20_000, Some(Entry::CallCtor)) {
+        let at = |stage| decode(&Call { stage, ..call.clone() }).expect("well formed");
+        assert_eq!(answer(&at(1)), answer(&at(2)), "{call}");
+        let ((at_const, due), (at_override, taken)) = (classified(&at(0)), classified(&at(1)));
+        assert_eq!(taken, due, "{call}");
+        assert_eq!(at_override == Class::Override, answer(&at(0)) != answer(&at(1)), "{call}");
+        assert!(at_override == at_const || at_override == Class::Override, "{call}");
+        differing += usize::from(at_override == Class::Override);
+    }
+    assert!(differing > 100, "{differing}");
+}
+
 fn line(entry: Entry, stage: u8, target: &str, args: &str) -> String {
     let bytes = |text| from_hex(text).expect("hex");
     let call = Call { entry, stage, target: bytes(target), args: bytes(args) };
@@ -65,8 +81,10 @@ fn named_cases() {
         (ConvertTo, 0, "547306", "567301efff000000000000", "same ok 567306ff7b000000000000"),
         (ConvertTo, 0, "547306", "567301f0ff000000000000", "same no 9"),
         (CallCtor, 0, "547306", "567301e1ff000000000000", "same no 21"),
+        (CallCtor, 1, "547306", "567301e1ff000000000000", "override no 21"),
         (CallCtor, 2, "547306", "567301e1ff000000000000", "same ok 567306ff7b000000000000"),
         (CallCtor, 0, "547305", "567302000000e8ffffef47", "same no 21"),
+        (CallCtor, 1, "547305", "567302000000e8ffffef47", "override no 21"),
         (ConvertTo, 0, "547305", "567302000000e8ffffef47", "same ok 567305ffff7f7f00000000"),
         (CallCtor, 0, "547300", "5673050000c07f00000000", "same ok 5673000100000000000000"),
         (CallCtor, 0, "547300", "5673050000008000000000", "same ok 5673000000000000000000"),

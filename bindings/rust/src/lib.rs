@@ -29,14 +29,16 @@ pub use target::Target;
 pub use ty::Type;
 pub use value::Value;
 
-/// When the expression is folded. It decides whether a float out of range is refused (21, at Const) or becomes infinity.
+/// When the expression is folded. It decides whether `f32` and `f16` refuse a number outside their range, NaN too (21, at
+/// Const and at Override), or take it and may give an infinity or NaN (at Exec). The same call gives one result at Const
+/// and at Override: the same answer and the same bytes.
 #[derive(Clone, Copy, Debug, PartialEq, Eq, Hash)]
 #[repr(u8)]
 pub enum Stage {
-    /// In a constant expression.
+    /// In a constant expression. Ranges are checked.
     Const = 0,
-    /// When the pipeline is made.
+    /// When the pipeline is made. Ranges are checked as at Const.
     Override = 1,
-    /// While the shader runs.
+    /// While the shader runs. Ranges are not checked.
     Exec = 2,
 }

@@ -64,7 +64,7 @@ impl fmt::Display for Refusal {
             14 => "column length",
             15 => "integer outside i32 or u32",
             16 => "typing of a runtime-sized array or of an abstract vector type",
-            21 => "outside the float's range because the stage is Const",
+            21 => "outside the float's range because the stage is Const or Override",
             22 => "the record, or the value in memory, is longer than the buffer",
             23 => "more than 256 jobs",
             24 => "a job's part reaches outside the slice, or is empty and begins past its end",

@@ -1,4 +1,4 @@
-//! The printed case and P1 to P12 of document 01, and the edges of the functions over trees.
+//! The printed case and P1 to P12 of document 01, the stages, and the edges of the functions over trees.
 use vireodesk::*;
 
 fn scalar(kind: Kind) -> Target {
@@ -59,11 +59,42 @@ fn p5_two_roundings_and_one() {
 fn p6_to_p8_the_ends_of_the_ranges() {
     assert_eq!(convert(Kind::F16, Literal::abstract_int(65519)), Ok(Literal::f16(0x7BFF)));
     assert_eq!(convert(Kind::F16, Literal::abstract_int(65520)), Err(9));
-    assert_eq!(build(Stage::Const, Kind::F16, Literal::abstract_int(65505)), Err(21));
-    assert_eq!(build(Stage::Exec, Kind::F16, Literal::abstract_int(65505)), Ok(Literal::f16(0x7BFF)));
     let past = Literal::abstract_float(f64::from(f32::MAX) + 2f64.powi(102));
-    assert_eq!(build(Stage::Const, Kind::F32, past), Err(21));
+    for stage in [Stage::Const, Stage::Override] {
+        assert_eq!(build(stage, Kind::F16, Literal::abstract_int(65505)), Err(21));
+        assert_eq!(build(stage, Kind::F32, past), Err(21));
+    }
+    assert_eq!(build(Stage::Exec, Kind::F16, Literal::abstract_int(65505)), Ok(Literal::f16(0x7BFF)));
     assert_eq!(convert(Kind::F32, past), Ok(f32_bits(0x7F7F_FFFF)));
+}
+
+#[test]
+fn const_and_override_give_one_result() {
+    let (one, far) = (Literal::abstract_float(1.0), Literal::abstract_float(1e300));
+    let vector = Target::Type(Type::Vector { n: 2, kind: Kind::F32 });
+    let matrix = Target::Type(Type::Matrix { columns: 2, rows: 2, kind: Kind::F16 });
+    let square = |last| Value::Matrix(vec![vec![Literal::f32(1.0); 2], vec![Literal::f32(1.0), Literal::f32(last)]]);
+    // target, argument, the refusal at Const and at Override, the one at Exec
+    let calls = [
+        (scalar(Kind::F32), Value::Scalar(far), 21, 0),
+        (vector.clone(), Value::Vector(vec![one, far]), 21, 0),
+        (matrix.clone(), square(65536.0), 21, 0),
+        // converted, which no stage changes
+        (vector.clone(), Value::Scalar(far), 9, 9),
+        (vector, Value::Vector(vec![one; 2]), 0, 0),
+        (matrix, square(1.0), 0, 0),
+    ];
+    for (target, arg, checked, unchecked) in calls {
+        let mut route = Route::new();
+        let alone = [Stage::Const, Stage::Override, Stage::Exec].map(|stage| {
+            route.push(stage, &target, &[arg.clone()]);
+            call_ctor(stage, &target, &[arg.clone()])
+        });
+        let numbers: Vec<_> = alone.iter().map(|folded| folded.as_ref().map_or_else(Refusal::number, |_| 0)).collect();
+        assert_eq!(numbers, [checked, checked, unchecked]);
+        assert_eq!(alone[0], alone[1]);
+        assert_eq!(route.fold().unwrap(), alone);
+    }
 }
 
 #[test]

@@ -57,7 +57,7 @@ impl Refusal {
     // "typing only: `Tr`, or an abstract vector type"
     pub const NOT_TYPED: u8 = 16;
 
-    // "outside the float's range because the stage is Const"
+    // "outside the float's range because the stage is Const", and "at Override .. wherever Const does"
     pub const FLOAT_RANGE: u8 = 21;
 
     // "the accepted record is longer than the lent buffer, also where its length is past 64 bits"

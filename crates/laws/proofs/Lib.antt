@@ -27,3 +27,4 @@ pub mod Handed
 pub mod Third
 pub mod Left
 pub mod Batch
+pub mod Stages

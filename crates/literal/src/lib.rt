@@ -76,7 +76,7 @@ pub fn rules_at(stage: u8) -> Staged
 {
     match stage {
         Stage::CONST => Staged::At(Rules { checked: true }),
-        Stage::OVERRIDE => Staged::At(Rules { checked: false }),
+        Stage::OVERRIDE => Staged::At(Rules { checked: true }),
         Stage::EXEC => Staged::At(Rules { checked: false }),
         _ => Staged::Never,
     }

@@ -1,9 +1,9 @@
--- Worked cases of request 01, computed from the definitions: places, refusals of one job and of the whole call, the buffer.
+-- Worked cases of request 01, computed from the definitions: places, stages, refusals of one job and of the whole call, the buffer.
 use mathlib.Core.Path.{_≡_, refl}
 use mathlib.Core.List.{List, [], _∷_, _++_}
 use Prim.Native.Nat.{ℕ, _-_, _^_}
 use lib.ListN.{replicate}
-use Rattle.meaning.specs.Kinds.{aint, f32}
+use Rattle.meaning.specs.Kinds.{aint, afloat, f32}
 use Rattle.meaning.specs.Trees.{Ts, Vs}
 use Rattle.meaning.specs.Answers.{Answer, ok, no}
 use Rattle.meaning.specs.Records.{tyBytes, valBytes}
@@ -19,15 +19,23 @@ s = tyBytes (Ts f32) ++ valBytes (Vs aint 1)
 job : ℕ → ℕ → ℕ → ℕ → ℕ → Job
 job stage t tn a an = record { stage = stage; target = record { start = t; size = tn }; args = record { start = a; size = an } }
 
+-- f32 of the literal at a stage
+folded : ℕ → Job
+folded stage = job stage 0 3 3 11
+
 -- f32(1), the zero value of f32, and a call at no stage
 made : Job
-made = job 0 0 3 3 11
+made = folded 0
 
 zero-value : Job
 zero-value = job 2 0 3 14 0
 
 unstaged : Job
-unstaged = job 3 0 3 3 11
+unstaged = folded 3
+
+-- another slice, of the same lengths: the literal is an AbstractFloat outside the range of f32
+far : List ℕ
+far = tyBytes (Ts f32) ++ valBytes (Vs afloat 0x7FEFFFFFFFFFFFFF)
 
 turn : ℕ → Answer → Turn
 turn at a = record { answer = a; start = at }
@@ -42,6 +50,8 @@ record Batches : Type 0 where
   two-jobs : batchTurns s (made ∷ made ∷ []) 22 ≡ ok (turn 0 one ∷ turn 11 one ∷ [])
   one-byte-short : batchTurns s (made ∷ made ∷ []) 21 ≡ ok (turn 0 one ∷ turn 11 (no 22) ∷ [])
   each-its-stage : batchTurns s (made ∷ unstaged ∷ []) 22 ≡ ok (turn 0 one ∷ turn 11 (no 3) ∷ [])
+  -- request 03: "A user who folds the same literals at Const and Override gets one result"
+  one-result : batchTurns far (folded 0 ∷ folded 1 ∷ folded 2 ∷ []) 11 ≡ ok (turn 0 (no 21) ∷ turn 0 (no 21) ∷ turn 0 (value (Vs f32 0x7F800000)) ∷ [])
   -- "A refused job writes nothing and the next goes on"
   goes-on : batchTurns s (unstaged ∷ unstaged ∷ made ∷ []) 11 ≡ ok (turn 0 (no 3) ∷ turn 0 (no 3) ∷ turn 0 one ∷ [])
   in-its-place : laid (batchAnswer s (made ∷ unstaged ∷ zero-value ∷ []) 24) (replicate 24 7) ≡ valBytes (Vs f32 0x3F800000) ++ (valBytes (Vs f32 0) ++ (7 ∷ 7 ∷ []))
@@ -59,13 +69,14 @@ record Batches : Type 0 where
   nothing-written : laid (batchAnswer s (made ∷ job 0 0 15 0 0 ∷ []) 12) (replicate 12 7) ≡ replicate 12 7
 
 batches : Batches
-unfolding s job made zero-value unstaged turn one value batchTurns batchAnswer laid tyBytes valBytes opened
+unfolding s job folded made zero-value unstaged far turn one value batchTurns batchAnswer laid tyBytes valBytes opened
 batches = record {
   no-jobs = refl;
   one-job = refl;
   two-jobs = refl;
   one-byte-short = refl;
   each-its-stage = refl;
+  one-result = refl;
   goes-on = refl;
   in-its-place = refl;
   empty-at-the-end = refl;

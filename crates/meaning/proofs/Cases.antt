@@ -43,11 +43,18 @@ record Cases : Type 0 where
   -- the buffer at exit
   laid-front : laid (within 12 0 (Of (Ts bool)) (Vs bool 1 ∷ [])) (replicate 12 7) ≡ valBytes (Vs bool 1) ++ (7 ∷ [])
   laid-not : laid (within 12 0 (Of (Ts bool)) (four ∷ [])) (replicate 12 7) ≡ replicate 12 7
-  -- stages
-  override-passes : ctor 1 f16 aint 65505 ≡ lit f16 0x7BFF
-  override-infinite : ctor 1 f32 afloat 0x7FEFFFFFFFFFFFFF ≡ lit f32 0x7F800000
+  -- stages; "at Override, f32 and f16 now give 21 wherever Const does" (document 02, request 03)
   const-not : ctor 0 f32 afloat 0x7FEFFFFFFFFFFFFF ≡ no 21
+  override-not : ctor 1 f32 afloat 0x7FEFFFFFFFFFFFFF ≡ no 21
+  exec-infinite : ctor 2 f32 afloat 0x7FEFFFFFFFFFFFFF ≡ lit f32 0x7F800000
+  override-half : ctor 1 f16 aint 65505 ≡ no 21
+  override-nan : ctor 1 f16 f32 0x7FC00000 ≡ no 21
+  override-vector : builds 1 (Of (Tv 2 f32)) (Vv afloat (0 ∷ 0x7FEFFFFFFFFFFFFF ∷ []) ∷ []) ≡ no 21
+  exec-vector : builds 2 (Of (Tv 2 f32)) (Vv afloat (0 ∷ 0x7FEFFFFFFFFFFFFF ∷ []) ∷ []) ≡ value (Vv f32 (0 ∷ 0x7F800000 ∷ []))
+  override-matrix : builds 1 (Of (Tm 2 2 f16)) (Vm 2 2 f32 (0 ∷ 0 ∷ 0 ∷ 0x47800000 ∷ []) ∷ []) ≡ no 21
+  exec-matrix : builds 2 (Of (Tm 2 2 f16)) (Vm 2 2 f32 (0 ∷ 0 ∷ 0 ∷ 0x47800000 ∷ []) ∷ []) ≡ value (Vm 2 2 f16 (0 ∷ 0 ∷ 0 ∷ 0x7C00 ∷ []))
   largest-passes : ctor 0 f16 aint 65504 ≡ lit f16 0x7BFF
+  override-largest : ctor 1 f16 aint 65504 ≡ lit f16 0x7BFF
   stage-free : ctor 2 i32 aint (2 ^ 31) ≡ no 15
   -- scalar constructors
   keeps-bits : ctor 0 u32 i32 (2 ^ 32 - 1) ≡ lit u32 (2 ^ 32 - 1)
@@ -165,10 +172,17 @@ cases =
       room-enough = refl;
       laid-front = refl;
       laid-not = refl;
-      override-passes = refl;
-      override-infinite = refl;
       const-not = refl;
+      override-not = refl;
+      exec-infinite = refl;
+      override-half = refl;
+      override-nan = refl;
+      override-vector = refl;
+      exec-vector = refl;
+      override-matrix = refl;
+      exec-matrix = refl;
       largest-passes = refl;
+      override-largest = refl;
       stage-free = refl;
       keeps-bits = refl;
       toward-zero = refl;

@@ -18,7 +18,7 @@ pub fn due<'a>(class: Class, call: &Call, theirs: &'a Answer) -> Option<Cow<'a, 
         Class::NanFits => Some(Cow::Owned(refused(nan_number(call)))),
         Class::Wrap => whole_total(call).map(Cow::Owned),
         Class::NanBits => own_nans(theirs).map(Cow::Owned),
-        Class::Same | Class::Half => {
+        Class::Same | Class::Half | Class::Override => {
             let none = matches!(theirs, Answer::Panic | Answer::No(Refusal::UNKNOWN));
             (!none).then_some(Cow::Borrowed(theirs))
         }

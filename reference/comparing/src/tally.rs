@@ -101,6 +101,7 @@ fn due_in_words(class: &str) -> &'static str {
         "nan-bits" => "the Rust's record with document 01's NaN",
         "nan-fits" => "a refusal: 10 where a matrix or an untemplated shape is built, else 9",
         "rows" => "14",
+        "override" => "the Rust's answer at Const",
         _ => "8, the vector's length, the number of arguments",
     }
 }

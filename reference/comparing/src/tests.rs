@@ -57,6 +57,7 @@ fn judged(class: Class, call: Call, right: Answer, wrong: &[Answer]) {
 
 const F32_NAN: &str = "5673050000c07f00000000";
 const ABSTRACT_NAN: &str = "567302000000000000f87f";
+const ABSTRACT_ONE: &str = "567302000000000000f03f";
 
 #[test]
 fn same() {
@@ -155,6 +156,23 @@ fn nan_fits() {
     // a matrix that is converted, not built
     let column = format!("567602{}", ABSTRACT_NAN.repeat(2));
     nine(call(Entry::ConvertTo, 0, "546d0202547305", &format!("566d0202{column}{column}")));
+}
+
+#[test]
+fn override_is_checked() {
+    let (past, infinity) = ("567302000000000000f047", "5673050000807f00000000"); // 2^128
+    let wrong = [record(infinity), record(F32_NAN), refused(9), refused(22)];
+    let refuses = |target, args: &str| judged(Class::Override, call(Entry::CallCtor, 1, target, args), refused(21), &wrong);
+    refuses("547305", past);
+    refuses("547305", ABSTRACT_NAN);
+    refuses("547602547305", &format!("567602{ABSTRACT_ONE}{past}"));
+    let column = "567602".to_string() + &"5673050000804700000000".repeat(2); // 65536
+    refuses("546d0202547306", &format!("566d0202{column}{column}"));
+    // where the Rust has one answer at Const and at Override, the class is that of the call at Const
+    judged(Class::Same, call(Entry::CallCtor, 1, "547305", ABSTRACT_ONE), record("5673050000803f00000000"), &wrong);
+    judged(Class::NanBits, call(Entry::CallCtor, 1, "547305", "56730655fe000000000000"), record(F32_NAN), &[refused(21)]);
+    // at Exec it is the Rust's own
+    judged(Class::Same, call(Entry::CallCtor, 2, "547305", past), record(infinity), &[refused(21)]);
 }
 
 #[test]

@@ -2,7 +2,7 @@
 use crate::lines::{lines, Answer, Line};
 use vireodesk::*;
 
-/// What document 01 answers to the line, by its class (reference/README.md).
+/// What documents 01 and 02 answer to the line, by its class (reference/README.md).
 fn due(line: &Line) -> Answer {
     match line.class.as_str() {
         "rows" => Answer::No(14, None),
@@ -14,7 +14,7 @@ fn due(line: &Line) -> Answer {
             let given = Type::decode_list(&line.args).expect("the list's types are well formed").len();
             Answer::No(8, Some((line.target[2].into(), given as u64)))
         }
-        "same" | "half" | "nan-bits" => line.answer.clone(),
+        "same" | "half" | "nan-bits" | "override" => line.answer.clone(),
         other => panic!("line {}: the class {other} is not known", line.number),
     }
 }
