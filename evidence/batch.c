@@ -225,9 +225,9 @@ static void write_slice(void)
     written.n = 0;
     bad = put_in("Ts\7", 3), array3 = put_in("Ta\3\0Ts\3", 7), vec2 = put_in("Tv\2Ts\5", 6);
     f32 = (struct vireo_part){vec2.start + 3, 3}; /* the end of vec2 */
+    far = put_in("Vs\2\0\0\0\0\0\0\360\107", 11); /* 2^128 */
     one = put_in("Vs\1\1\0\0\0\0\0\0\0", 11), put_in("Vs\1\2\0\0\0\0\0\0\0", 11);
     two = (struct vireo_part){one.start, 22};
-    far = put_in("Vs\2\0\0\0\0\0\0\360\107", 11); /* 2^128 */
     none = (struct vireo_part){written.n, 0};
 }
 

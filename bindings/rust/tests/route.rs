@@ -28,7 +28,7 @@ fn deep() -> Value {
     (0..16).fold(int(1), |inner, _| Value::Array(vec![inner]))
 }
 
-/// The nth constant of a route: some of each shape and stage, about one in five refused.
+/// The nth constant of a route: some of each shape and stage, between a fifth and a fourth refused.
 fn constant(n: usize) -> Constant {
     let x = n as i64;
     let member = Value::Vector(vec![Literal::abstract_int(x), Literal::abstract_int(-x)]);
@@ -109,7 +109,7 @@ fn in_one(route: &Route, room: usize) -> (Vec<Job>, usize) {
 
 #[test]
 fn routes_of_some_lengths() {
-    assert_eq!([0, 1, 2, 200, 256].map(|count| folds(&constants(count))), [0, 1, 2, 161, 206]);
+    assert_eq!([0, 1, 2, 200, 256].map(|count| folds(&constants(count))), [0, 1, 2, 155, 199]);
     let more = routed(&constants(257)).fold().unwrap_err();
     assert_eq!((more.number(), more.to_string().as_str()), (23, "refusal 23: more than 256 jobs"));
 }
