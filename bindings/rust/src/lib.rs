@@ -29,9 +29,9 @@ pub use target::Target;
 pub use ty::Type;
 pub use value::Value;
 
-/// When the expression is folded. It decides whether `f32` and `f16` refuse a number outside their range, NaN too (21, at
-/// Const and at Override), or take it and may give an infinity or NaN (at Exec). The same call gives one result at Const
-/// and at Override: the same answer and the same bytes.
+/// When the expression is folded. At Const and at Override `f32` refuses an AbstractFloat, and `f16` a number of any other
+/// kind, that is outside its range or NaN (21), and the same call gives one result at both: the same answer and the same
+/// bytes. At Exec they take it, and may give an infinity or NaN.
 #[derive(Clone, Copy, Debug, PartialEq, Eq, Hash)]
 #[repr(u8)]
 pub enum Stage {

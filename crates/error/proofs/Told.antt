@@ -29,12 +29,13 @@ is-miscount (Miscount w g) e = cc
 pub told-as : {a b : Answer} {out out′ : List ℕ} {r : Written} → a ≡ b → Told b out r out′ → Told a out r out′
 told-as {out = out} {out′} {r} e x = subst (λ (c : Answer). Told c out r out′) (sym e) x
 
--- a contract leaves nothing open: what an answer tells of two calls on equal buffers is one result, and one buffer at exit
+-- the case and its numbers follow from the paper's
 same-paper : (r q : Written) → paper q ≡ paper r → q ≡ r
 unfolding paper
 same-paper (Record n) q e = is-record q e
 same-paper (Refused n) q e = is-refused q e
 same-paper (Miscount w g) q e = is-miscount q e
 
+-- a contract leaves nothing open: two calls of which it tells the same, on equal buffers, returned the same and left the same
 pub told-once : {a : Answer} {out out₁ out₂ : List ℕ} {r q : Written} → Told a out r out₁ → Told a out q out₂ → (r ≡ q) × (out₁ ≡ out₂)
 told-once {r = r} {q} x y = (same-paper q r (x .says ∙ sym (y .says)), x .leaves ∙ sym (y .leaves))

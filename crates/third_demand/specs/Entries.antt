@@ -7,8 +7,8 @@
 -- If typing answers a record, that is the record of one type, at the front of its buffer. Building then answers a value exactly when every literal fits the scalar kind it must
 -- become at that stage and a counted array given any arguments has as many as it counts. The value is whole, its record stands at the front of building's buffer, the record of its
 -- type is byte for byte the one that typing answered, and behind both records the buffers hold what they held. Otherwise building refuses, and its buffer is as it was.
--- The stage matters to f32 and f16 alone, where they make a literal: at Const they take no number outside the float's range (21), and at Override neither, so that the same
--- arguments come to the same end at both; at Exec they take every number.
+-- The stage matters to f32 and f16 alone, where they make a literal: one that they refuse at Const, as outside the float's range (21), does not fit at Override either, so that
+-- the same arguments come to the same end at both; at Exec it fits.
 -- If typing refuses, building refuses too, and both buffers are as they were.
 -- So these can't happen: a value built for types that typing refused; a value of another type than typing named (a matrix with short columns, a vector of another kind); a refusal
 -- of arguments that typing passed where each literal fits and the count is right; a value in spite of a literal that does not fit; a buffer half written beside a refusal.

@@ -162,17 +162,18 @@ fn nan_fits() {
 fn override_is_checked() {
     let (past, infinity) = ("567302000000000000f047", "5673050000807f00000000"); // 2^128
     let wrong = [record(infinity), record(F32_NAN), refused(9), refused(22)];
-    let refuses = |target, args: &str| judged(Class::Override, call(Entry::CallCtor, 1, target, args), refused(21), &wrong);
+    let at = |stage, target, args: &str| call(Entry::CallCtor, stage, target, args);
+    let refuses = |target, args: &str| judged(Class::Override, at(1, target, args), refused(21), &wrong);
     refuses("547305", past);
     refuses("547305", ABSTRACT_NAN);
     refuses("547602547305", &format!("567602{ABSTRACT_ONE}{past}"));
     let column = "567602".to_string() + &"5673050000804700000000".repeat(2); // 65536
     refuses("546d0202547306", &format!("566d0202{column}{column}"));
     // where the Rust has one answer at Const and at Override, the class is that of the call at Const
-    judged(Class::Same, call(Entry::CallCtor, 1, "547305", ABSTRACT_ONE), record("5673050000803f00000000"), &wrong);
-    judged(Class::NanBits, call(Entry::CallCtor, 1, "547305", "56730655fe000000000000"), record(F32_NAN), &[refused(21)]);
+    judged(Class::Same, at(1, "547305", ABSTRACT_ONE), record("5673050000803f00000000"), &wrong);
+    judged(Class::NanBits, at(1, "547305", "56730655fe000000000000"), record(F32_NAN), &[refused(21)]);
     // at Exec it is the Rust's own
-    judged(Class::Same, call(Entry::CallCtor, 2, "547305", past), record(infinity), &[refused(21)]);
+    judged(Class::Same, at(2, "547305", past), record(infinity), &[refused(21)]);
 }
 
 #[test]
