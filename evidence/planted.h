@@ -79,7 +79,7 @@ static const struct { const char *name; enum check check; void (*spoil)(struct m
     {"9 for a malformed argument", FORMED, nine_for_two},
     {"1 for a well-formed target", FORMED, one_for_nine},
     {"2 for well-formed arguments", FORMED, two_for_nine},
-    {"3 at stage 0", FORMED, three_for_twenty_one},
+    {"3 at a stage that is one", FORMED, three_for_twenty_one},
     {"16 where the rules have 9", NUMBER, sixteen_for_nine},
     {"a number that is none", NUMBER, no_such_number},
     {"a made-up count given", COUNTS, given_made_up},
