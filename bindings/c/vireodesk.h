@@ -35,7 +35,7 @@ struct vireo_answer {
 
 /* The stages: in a constant expression, when the pipeline is made, while the shader runs. At Const and at Override f32 refuses an AbstractFloat, and f16 a number of any
  * other kind, that is outside its range or NaN (21), and the same call gives one result at both: the same answer and the same bytes. At Exec they take it, and may give an
- * infinity or NaN. */
+ * infinity or NaN. A literal that is converted without them must fit at every stage (9 or 10). */
 enum { VIREO_CONST = 0, VIREO_OVERRIDE = 1, VIREO_EXEC = 2 };
 
 /* Building: what the target's constructor makes of the arguments, value records one after another, at a stage. The result is a value record.

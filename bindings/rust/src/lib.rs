@@ -31,14 +31,15 @@ pub use value::Value;
 
 /// When the expression is folded. At Const and at Override `f32` refuses an AbstractFloat, and `f16` a number of any other
 /// kind, that is outside its range or NaN (21), and the same call gives one result at both: the same answer and the same
-/// bytes. At Exec they take it, and may give an infinity or NaN.
+/// bytes. At Exec they take it, and may give an infinity or NaN. A literal that is converted without them must fit at every
+/// stage (9 or 10).
 #[derive(Clone, Copy, Debug, PartialEq, Eq, Hash)]
 #[repr(u8)]
 pub enum Stage {
-    /// In a constant expression. Ranges are checked.
+    /// In a constant expression. `f32` and `f16` check their range.
     Const = 0,
-    /// When the pipeline is made. Ranges are checked as at Const.
+    /// When the pipeline is made. They check it as at Const.
     Override = 1,
-    /// While the shader runs. Ranges are not checked.
+    /// While the shader runs. They do not check it.
     Exec = 2,
 }
