@@ -1,95 +1,109 @@
-/* The printed case of document 01: vec2<f32> of the AbstractInt 1, at stage Const, and the same as `i32` arrays with too few elements; then a small route in one call:
- * bore, chainage and valve offsets, and an array that is a valve short, which is refused and does not stop the others. At last the three are a struct, as it lies in a
- * storage buffer, and the struct is read back from there.
- * gcc -I bindings/c -o example bindings/c/example.c target/staticlib/libvireodesk.a */
-#include <inttypes.h>
-#include <stdio.h>
-#include <string.h>
+/* A small route in one call: bore, chainage, valve offsets, and an array that is a valve short, which
+ * is refused and does not stop the others. Then the three are made a struct, the struct is laid as
+ * a storage buffer has it, and read back from there. All of it is printed in words.
+ *
+ * bindings/library vireodesk
+ * gcc -I bindings/c -o example bindings/c/example.c target/staticlib/libvireodesk.a && ./example */
+#include "vireodesk_text.h"
 
-#include "vireodesk.h"
+/* The targets and arguments of all jobs, one after another. */
+static uint8_t bytes[512];
+static struct vireo_records records;
 
-static void show(struct vireo_answer answer, const uint8_t *out)
-{
-    if (answer.refusal == 8) printf("no 8 %" PRIu64 " %" PRIu64 "\n", answer.wanted, answer.given);
-    else if (answer.refusal) printf("no %" PRIu64 "\n", answer.refusal);
-    else {
-        printf("ok ");
-        for (uint64_t i = 0; i < answer.value; i++) printf("%02x", out[i]);
-        printf("\n");
-    }
-}
-
-/* the slice that the route's jobs have their parts in: each record is put behind the earlier ones */
-static uint8_t bytes[256];
-static size_t bytes_len;
-
-static struct vireo_part put(const void *record, size_t len)
-{
-    struct vireo_part part = {bytes_len, len};
-    memcpy(bytes + bytes_len, record, len);
-    bytes_len += len;
-    return part;
-}
-
-/* numbers of metres as AbstractFloat, one after another: a list of arguments */
 static struct vireo_part metres(const double *numbers, size_t count)
 {
-    struct vireo_part all = {bytes_len, 0};
-    for (size_t i = 0; i < count; i++) {
-        uint8_t literal[11] = {'V', 's', 2};
-        uint64_t bits;
-        memcpy(&bits, &numbers[i], sizeof bits);
-        for (int b = 0; b < 8; b++) literal[3 + b] = (uint8_t)(bits >> 8 * b);
-        all.len += put(literal, sizeof literal).len;
-    }
-    return all;
+    const size_t start = records.len;
+    for (size_t i = 0; i < count; i++) vireo_put_abstract_float(&records, numbers[i]);
+    return vireo_part_since(&records, start);
 }
 
-/* struct Route { bore: f32, chainage: vec3<f32>, valves: array<f32, 3> }, made of the records of its members, which lie one after another */
-static void storage(const uint8_t *members, size_t members_len)
+static struct vireo_part f32_type(void)
 {
-    static const uint8_t type[] = "Tu\1\0\3\0Ts\5Tv\3Ts\5Ta\3\0Ts\5";
-    const size_t type_len = sizeof type - 1;
+    const size_t start = records.len;
+    vireo_put_scalar_type(&records, VIREO_F32);
+    return vireo_part_since(&records, start);
+}
+
+static struct vireo_part vec3_type(void)
+{
+    const size_t start = records.len;
+    vireo_put_vector_type(&records, 3, VIREO_F32);
+    return vireo_part_since(&records, start);
+}
+
+static struct vireo_part array3_type(void)
+{
+    const size_t start = records.len;
+    vireo_put_array_type(&records, 3);
+    f32_type();
+    return vireo_part_since(&records, start);
+}
+
+/* struct Route { bore: f32, chainage: vec3<f32>, valves: array<f32, 3> } */
+static struct vireo_part struct_type(void)
+{
+    const size_t start = records.len;
+    vireo_put_struct_type(&records, 1, 3);
+    f32_type();
+    vec3_type();
+    array3_type();
+    return vireo_part_since(&records, start);
+}
+
+/* the value or the refusal, whichever the answer is */
+static void show(const char *name, struct vireo_answer answer, const uint8_t *record)
+{
+    printf("%s: ", name);
+    if (answer.refusal) vireo_print_refusal(stdout, answer);
+    else vireo_print_values(stdout, record, answer.value);
+    puts("");
+}
+
+/* The struct of the members, whose records lie one after another, in memory and back. */
+static void storage(struct vireo_part type_part, const uint8_t *members, size_t members_len)
+{
+    const uint8_t *type = bytes + type_part.start;
+    const size_t type_len = type_part.len;
     uint8_t record[128], memory[64], back[128];
-    struct vireo_layout layout = vireo_layout_of(type, type_len);
-    struct vireo_answer made = vireo_call_ctor(VIREO_CONST, type, type_len, members, members_len, record, sizeof record);
-    struct vireo_answer laid = vireo_write_layout(record, made.value, memory, sizeof memory); /* of a refused struct there is no record: 2 */
-    struct vireo_answer read = vireo_read_layout(type, type_len, memory, laid.value, back, sizeof back);
-    printf("layout %" PRIu64 ": size %" PRIu64 ", alignment %" PRIu64 "\nmemory: ", layout.refusal, layout.size, layout.align);
-    show(laid, memory);
-    printf("read back: %s\n", !read.refusal && read.value == made.value && !memcmp(back, record, made.value) ? "the same" : "another");
-}
-
-static void route(void)
-{
-    const struct vireo_part f32 = put("Ts\5", 3), vec3 = put("Tv\3Ts\5", 6), array3 = put("Ta\3\0Ts\5", 7);
-    const struct vireo_part bore = metres((const double[]){0.508}, 1), chainage = metres((const double[]){0, 6204.75, 12410}, 3);
-    const struct vireo_part valves = metres((const double[]){1180.5, 4400.25, 9031}, 3), two_valves = {valves.start, 2 * 11};
-    static const char *const names[] = {"bore", "chainage", "two valves of three", "valves"};
-    struct vireo_job jobs[] = {
-        {.target = f32, .args = bore, .stage = VIREO_CONST},
-        {.target = vec3, .args = chainage, .stage = VIREO_CONST},
-        {.target = array3, .args = two_valves, .stage = VIREO_CONST},
-        {.target = array3, .args = valves, .stage = VIREO_CONST},
-    };
-    uint8_t out[128];
-    struct vireo_answer whole = vireo_call_batch(bytes, bytes_len, jobs, sizeof jobs / sizeof *jobs, out, sizeof out);
-    printf("route %" PRIu64 " %" PRIu64 "\n", whole.refusal, whole.value);
-    if (whole.refusal) return; /* then the list holds no answers */
-    for (size_t i = 0; i < sizeof jobs / sizeof *jobs; i++) {
-        printf("%s at %zu: ", names[i], jobs[i].at);
-        show(jobs[i].answer, out + jobs[i].at);
-    }
-    storage(out, whole.value);
+    const struct vireo_layout layout = vireo_layout_of(type, type_len);
+    const struct vireo_answer made =
+        vireo_call_ctor(VIREO_CONST, type, type_len, members, members_len, record, sizeof record);
+    show("struct", made, record);
+    if (made.refusal) return;
+    const struct vireo_answer laid = vireo_write_layout(record, made.value, memory, sizeof memory);
+    printf("storage buffer: %" PRIu64 " bytes, at a multiple of %" PRIu64 "\n", layout.size, layout.align);
+    vireo_print_hex(stdout, memory, laid.value);
+    const struct vireo_answer read = vireo_read_layout(type, type_len, memory, laid.value, back, sizeof back);
+    const int same = !read.refusal && read.value == made.value && !memcmp(back, record, made.value);
+    printf("\nread back: %s\n", same ? "the same" : "another");
 }
 
 int main(void)
 {
-    const uint8_t vec2[] = {'T', 'v', 2, 'T', 's', 5}, one[] = {'V', 's', 1, 1, 0, 0, 0, 0, 0, 0, 0};
-    const uint8_t array3[] = {'T', 'a', 3, 0, 'T', 's', 3};
-    uint8_t out[64];
-    show(vireo_call_ctor(VIREO_CONST, vec2, sizeof vec2, one, sizeof one, out, sizeof out), out);
-    show(vireo_call_ctor(VIREO_CONST, array3, sizeof array3, one, sizeof one, out, sizeof out), out);
-    route();
+    static const char *const names[] = {"bore", "chainage", "two valves of three", "valves"};
+    const double bore[] = {0.508}, chainage[] = {0, 6204.75, 12410}, valves[] = {1180.5, 4400.25, 9031};
+    enum { JOBS = sizeof names / sizeof *names };
+    uint8_t out[128];
+
+    records = vireo_records_in(bytes, sizeof bytes);
+    struct vireo_job jobs[JOBS] = {
+        {.target = f32_type(), .args = metres(bore, 1), .stage = VIREO_CONST},
+        {.target = vec3_type(), .args = metres(chainage, 3), .stage = VIREO_CONST},
+        {.target = array3_type(), .args = metres(valves, 2), .stage = VIREO_CONST},
+        {.target = array3_type(), .args = metres(valves, 3), .stage = VIREO_CONST},
+    };
+    const struct vireo_part all = struct_type();
+    if (records.full) {
+        fputs("the buffer is too short for these records\n", stderr);
+        return 1;
+    }
+
+    const struct vireo_answer whole = vireo_call_batch(bytes, records.len, jobs, JOBS, out, sizeof out);
+    if (whole.refusal) { /* then the list holds no answers */
+        show("route", whole, out);
+        return 1;
+    }
+    for (int i = 0; i < JOBS; i++) show(names[i], jobs[i].answer, out + jobs[i].at);
+    storage(all, out, whole.value);
     return 0;
 }

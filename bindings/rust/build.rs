@@ -1,4 +1,5 @@
-//! Finds the static library: in the directory that VIREO_LIB names, else where the repository makes it. A relative name counts from the crate.
+//! Finds the static library: in the directory that VIREO_LIB names, else where the repository makes it. A relative name
+//! counts from the crate.
 use std::{env, path::Path, process};
 
 fn main() {
@@ -10,7 +11,8 @@ fn main() {
     println!("cargo:rerun-if-changed={}", library.display());
     let Ok(library) = library.canonicalize() else {
         eprintln!("{} is missing.", library.display());
-        eprintln!("Run `rt staticlib vireodesk` at the root of the repository, or set VIREO_LIB to the directory that has libvireodesk.a.");
+        eprintln!("Run `bindings/library vireodesk` at the root of the repository,");
+        eprintln!("or set VIREO_LIB to the directory that has libvireodesk.a.");
         process::exit(1);
     };
     println!("cargo:rustc-link-search=native={}", library.parent().expect("a file lies in a directory").display());

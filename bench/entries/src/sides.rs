@@ -89,7 +89,7 @@ fn answers(group: &Group, call: &Call, out: &mut [u8]) -> Vec<Answer> {
     out.fill(FILL);
     let ours = match library(call, out) {
         Ok(length) => Answer::Ok(out[..length].to_vec()),
-        Err(refusal) => Answer::No(reference::refusals::Refusal::new(refusal.number() as u8)),
+        Err(refusal) => Answer::No(reference::refusals::Refusal::new(refusal.number())),
     };
     let mut all = vec![ours, answer(&decoded(call))];
     if let Some(plain) = group.plain {

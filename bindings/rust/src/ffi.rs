@@ -1,15 +1,17 @@
 //! The eight C entries (bindings/c/vireodesk.h). All unsafe code of the crate is here.
 //!
-//! What C asks of its caller is that each pointer is to as many bytes or jobs as its length says (not null where that is 0), and that what is
-//! written, the lent buffer and the list of jobs, overlaps nothing else that is given. The functions of this module take slices, which give the
-//! first; mutable borrows beside shared ones give the second. The library asks nothing of the bytes, keeps no pointer and has no state, so no
-//! call can disturb a later one or one of another thread.
+//! What C asks of its caller is that each pointer is to as many bytes or jobs as its length says (not null where that
+//! is 0), and that what is written, the lent buffer and the list of jobs, overlaps nothing else that is given. The
+//! functions of this module take slices, which give the first; mutable borrows beside shared ones give the second. The
+//! library asks nothing of the bytes, keeps no pointer and has no state, so no call can disturb a later one or one of
+//! another thread.
 #![allow(unsafe_code)]
 
 use crate::Job;
 
-/// `struct vireo_answer`: `refusal` is 0 where the call was accepted, and then `value` is the record's length or the rank.
-#[derive(Clone, Copy, Debug, PartialEq, Eq)]
+/// `struct vireo_answer`: `refusal` is 0 where the call was accepted, and then `value` is the record's length or the
+/// rank.
+#[derive(Clone, Copy, Debug, Default, PartialEq, Eq)]
 #[repr(C)]
 pub(crate) struct Answer {
     pub(crate) refusal: u64,
@@ -27,7 +29,8 @@ pub(crate) struct Extent {
     pub(crate) align: u64,
 }
 
-// As the header has them: usize stands for size_t, and `Answer`, `Job` and `Extent` have the header's fields in its order.
+// As the header has them: usize stands for size_t, and `Answer`, `Job` and `Extent` have the header's fields in its
+// order.
 extern "C" {
     fn vireo_call_ctor(
         stage: u8,
@@ -77,8 +80,9 @@ extern "C" {
 
 #[inline]
 pub(crate) fn call_ctor(stage: u8, target: &[u8], args: &[u8], out: &mut [u8]) -> Answer {
-    // SAFETY: three slices, each its pointer and its length, none of them null; `out` is borrowed mutably, so it overlaps neither of the others.
-    // Any stage byte will do. The library writes only `out` and keeps nothing past the call.
+    // SAFETY: three slices, each its pointer and its length, none of them null; `out` is borrowed mutably, so it
+    // overlaps neither of the others. Any stage byte will do. The library writes only `out` and keeps nothing past the
+    // call.
     unsafe {
         vireo_call_ctor(stage, target.as_ptr(), target.len(), args.as_ptr(), args.len(), out.as_mut_ptr(), out.len())
     }
@@ -104,9 +108,9 @@ pub(crate) fn conversion_rank(target: &[u8], args: &[u8]) -> Answer {
 
 #[inline]
 pub(crate) fn call_batch(bytes: &[u8], jobs: &mut [Job], out: &mut [u8]) -> Answer {
-    // SAFETY: three slices, each its pointer and its length, none of them null; `jobs` and `out` are borrowed mutably, so no two of the three
-    // overlap. A job may hold any numbers: the library looks at its parts before it reads them. It writes only `out` and the jobs, any numbers of
-    // which are a `Job` again, and keeps nothing past the call.
+    // SAFETY: three slices, each its pointer and its length, none of them null; `jobs` and `out` are borrowed mutably,
+    // so no two of the three overlap. A job may hold any numbers: the library looks at its parts before it reads them.
+    // It writes only `out` and the jobs, any numbers of which are a `Job` again, and keeps nothing past the call.
     unsafe { vireo_call_batch(bytes.as_ptr(), bytes.len(), jobs.as_mut_ptr(), jobs.len(), out.as_mut_ptr(), out.len()) }
 }
 

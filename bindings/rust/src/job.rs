@@ -1,4 +1,4 @@
-use std::ops::Range;
+use core::ops::Range;
 
 use crate::{ffi::Answer, refusal::judged, Refusal};
 
@@ -32,11 +32,11 @@ pub struct Job {
 impl Job {
     /// A job that has no answer yet.
     pub fn new(stage: u8, target: Part, args: Part) -> Job {
-        Job { target, args, stage, answer: Answer { refusal: 0, value: 0, wanted: 0, given: 0 }, at: 0 }
+        Job { target, args, stage, answer: Answer::default(), at: 0 }
     }
 
-    /// The answer of the last call that took the job: the record's place in the result buffer, or the refusal. Where there was none yet, an empty
-    /// place, which no record has.
+    /// The answer of the last call that took the job: the record's place in the result buffer, or the refusal. Where
+    /// there was none yet, an empty place, which no record has.
     #[inline]
     pub fn result(&self) -> Result<Range<usize>, Refusal> {
         // The record ends within the buffer, so the sum fits.

@@ -1,45 +1,53 @@
-#![doc = include_str!("../README.md")]
+#![cfg_attr(feature = "std", doc = include_str!("../README.md"))]
+#![cfg_attr(
+    not(feature = "std"),
+    doc = "The library's entries on byte records. What allocates needs the feature `std`."
+)]
+#![cfg_attr(not(feature = "std"), no_std)]
 #![deny(missing_docs, unsafe_code)]
 
 mod bytes;
 mod ffi;
+mod half;
 mod job;
+#[cfg(feature = "std")]
 mod layout;
 mod literal;
+mod malformed;
+#[cfg(feature = "std")]
 mod owned;
+#[cfg(feature = "std")]
 mod record;
 mod refusal;
+#[cfg(feature = "std")]
 mod route;
+mod stage;
+#[cfg(feature = "std")]
 mod target;
+#[cfg(feature = "std")]
 mod ty;
+#[cfg(feature = "std")]
 mod value;
+mod wgsl;
 
 pub use bytes::{
     call_batch_bytes, call_ctor_bytes, conversion_rank_bytes, convert_to_bytes, layout_of_bytes, read_layout_bytes,
     type_ctor_bytes, write_layout_bytes,
 };
 pub use job::{Job, Part, MOST_JOBS};
+#[cfg(feature = "std")]
 pub use layout::Layout;
 pub use literal::{Kind, Literal};
+pub use malformed::Malformed;
+#[cfg(feature = "std")]
 pub use owned::{call_ctor, conversion_rank, convert_to, type_ctor, LONGEST};
-pub use record::Malformed;
 pub use refusal::Refusal;
+#[cfg(feature = "std")]
 pub use route::Route;
+pub use stage::Stage;
+#[cfg(feature = "std")]
 pub use target::Target;
+#[cfg(feature = "std")]
 pub use ty::Type;
+#[cfg(feature = "std")]
 pub use value::Value;
-
-/// When the expression is folded. At Const and at Override `f32` refuses an AbstractFloat, and `f16` a number of any other
-/// kind, that is outside its range or NaN (21), and the same call gives one result at both: the same answer and the same
-/// bytes. At Exec they take it, and may give an infinity or NaN. A literal that is converted without them must fit at every
-/// stage (9 or 10).
-#[derive(Clone, Copy, Debug, PartialEq, Eq, Hash)]
-#[repr(u8)]
-pub enum Stage {
-    /// In a constant expression. `f32` and `f16` check their range.
-    Const = 0,
-    /// When the pipeline is made. They check it as at Const.
-    Override = 1,
-    /// While the shader runs. They do not check it.
-    Exec = 2,
-}

@@ -1,4 +1,6 @@
-use std::fmt;
+use core::fmt;
+
+use crate::{half, Malformed};
 
 /// The seven scalar kinds with the numbers that the records have for them.
 #[derive(Clone, Copy, Debug, PartialEq, Eq, Hash)]
@@ -29,31 +31,23 @@ impl Kind {
     pub fn number(self) -> u8 {
         self as u8
     }
+}
 
-    /// The kind of a number; none from 7 on.
-    pub fn from_number(number: u8) -> Option<Kind> {
-        Kind::ALL.get(usize::from(number)).copied()
-    }
+impl TryFrom<u8> for Kind {
+    type Error = Malformed;
 
-    /// The largest payload: the bits above are zero.
-    pub(crate) fn most(self) -> u64 {
-        match self {
-            Kind::Bool => 1,
-            Kind::AbstractInt | Kind::AbstractFloat => u64::MAX,
-            Kind::I32 | Kind::U32 | Kind::F32 => u64::from(u32::MAX),
-            Kind::F16 => u64::from(u16::MAX),
-        }
-    }
-
-    /// Whether a matrix can have it.
-    pub(crate) fn is_float(self) -> bool {
-        matches!(self, Kind::AbstractFloat | Kind::F32 | Kind::F16)
+    /// The kind of a number; from 7 on there is none.
+    fn try_from(number: u8) -> Result<Kind, Malformed> {
+        Kind::ALL.get(usize::from(number)).copied().ok_or(Malformed::new(0, "a kind over 6"))
     }
 }
 
 /// One scalar: its kind and its payload, low bits first, the unused high bits zero.
 ///
 /// Two literals are equal when kind and bits are: a NaN equals itself, and the two zeros differ.
+///
+/// Rust's own numbers become literals of their kind, `i64` an AbstractInt and `f64` an AbstractFloat. To Rust a whole
+/// number without a suffix is an `i32`: `Literal::from(1)` is an I32, `Literal::from(1i64)` an AbstractInt.
 #[derive(Clone, Copy, PartialEq, Eq, Hash)]
 pub struct Literal {
     /// The kind.
@@ -132,6 +126,69 @@ impl Literal {
     pub fn as_f16(self) -> Option<u16> {
         (self.kind == Kind::F16).then_some(self.bits as u16)
     }
+
+    /// The number of a literal of any kind but Bool, where an f64 holds it exactly: only an AbstractInt may be too long
+    /// for one. A NaN stays a NaN.
+    pub fn as_f64(self) -> Option<f64> {
+        match self.kind {
+            Kind::Bool => None,
+            Kind::AbstractInt => exact_float(self.bits as i64),
+            Kind::AbstractFloat => Some(f64::from_bits(self.bits)),
+            Kind::I32 => Some((self.bits as i32).into()),
+            Kind::U32 => Some((self.bits as u32).into()),
+            Kind::F32 => Some(f32::from_bits(self.bits as u32).into()),
+            Kind::F16 => Some(half::number(self.bits as u16)),
+        }
+    }
+
+    /// The number of a literal of any kind but Bool, where it is whole and fits. Both zeros are 0.
+    pub fn as_i64(self) -> Option<i64> {
+        self.as_abstract_int().or_else(|| self.as_f64().and_then(whole))
+    }
+}
+
+/// The number as an f64, if that is the same number. Compared in a type that also holds 2^63, to which the largest are
+/// rounded.
+fn exact_float(number: i64) -> Option<f64> {
+    let float = number as f64;
+    (float as i128 == i128::from(number)).then_some(float)
+}
+
+/// The float as an i64, if that is the same number.
+fn whole(float: f64) -> Option<i64> {
+    // Cuts off what isn't whole, and gives the nearest number where it is too large, so that either is another number
+    // then.
+    let number = float as i128;
+    i64::try_from(number).ok().filter(|_| number as f64 == float)
+}
+
+/// Rust's numbers as literals, and as values that are one.
+macro_rules! from_numbers {
+    ($($number:ident as $kind:ident;)+) => {
+        $(
+            impl From<$number> for Literal {
+                fn from(number: $number) -> Literal {
+                    Literal::$kind(number)
+                }
+            }
+
+            #[cfg(feature = "std")]
+            impl From<$number> for crate::Value {
+                fn from(number: $number) -> crate::Value {
+                    Literal::$kind(number).into()
+                }
+            }
+        )+
+    };
+}
+
+from_numbers! {
+    bool as bool;
+    i32 as i32;
+    u32 as u32;
+    f32 as f32;
+    f64 as abstract_float;
+    i64 as abstract_int;
 }
 
 impl fmt::Debug for Literal {

@@ -1,36 +1,10 @@
-use std::{error, fmt};
+use crate::Malformed;
 
-/// Depth 15 passes, 16 is malformed. Every recursion of this crate falls from here.
+/// Depth 15 passes, 16 is malformed. Every recursion that reads, writes or judges a record falls from here.
 pub(crate) const DEPTH: u8 = 15;
 
 /// The longest type record.
 pub(crate) const TYPE_LENGTH: usize = 4096;
-
-/// Bytes that are no record, or a tree that no record can say.
-#[derive(Clone, Copy, Debug, PartialEq, Eq)]
-pub struct Malformed {
-    at: usize,
-    why: &'static str,
-}
-
-impl Malformed {
-    pub(crate) fn new(at: usize, why: &'static str) -> Malformed {
-        Malformed { at, why }
-    }
-
-    /// The place in the bytes, read or to be written, of the part that is wrong; for a rule on a whole record, where that record begins.
-    pub fn at(&self) -> usize {
-        self.at
-    }
-}
-
-impl fmt::Display for Malformed {
-    fn fmt(&self, f: &mut fmt::Formatter<'_>) -> fmt::Result {
-        write!(f, "malformed at byte {}: {}", self.at, self.why)
-    }
-}
-
-impl error::Error for Malformed {}
 
 /// What types and values have in common.
 pub(crate) trait Record: Sized {

@@ -1,7 +1,7 @@
 use crate::{
-    record::{Malformed, Reader, Record, DEPTH, TYPE_LENGTH},
+    record::{Reader, Record, DEPTH, TYPE_LENGTH},
     ty::{array_length, matrix_length, side, vector_length},
-    Type,
+    Malformed, Type,
 };
 
 /// What a constructor is to make.
@@ -36,7 +36,8 @@ impl Target {
         }
     }
 
-    /// The length of the record that an accepted call makes of arguments of some length in all. A conversion changes kinds, and with them no lengths.
+    /// The length of the record that an accepted call makes of arguments of some length in all. A conversion changes
+    /// kinds, and with them no lengths.
     pub(crate) fn result_length(&self, args: usize) -> usize {
         match self {
             Target::Type(ty) => ty.value_length(),

@@ -1,6 +1,6 @@
 use crate::{
-    record::{self, below, write_u16, Malformed, Reader, Record, TYPE_LENGTH},
-    Kind,
+    record::{self, below, write_u16, Reader, Record, TYPE_LENGTH},
+    Kind, Malformed,
 };
 
 /// A type. Two types are equal exactly when their records are.
@@ -41,9 +41,39 @@ pub enum Type {
 }
 
 impl Type {
+    /// `bool`
+    pub const BOOL: Type = Type::Scalar(Kind::Bool);
+    /// The type of whole numbers that have none yet.
+    pub const ABSTRACT_INT: Type = Type::Scalar(Kind::AbstractInt);
+    /// The type of floats that have none yet.
+    pub const ABSTRACT_FLOAT: Type = Type::Scalar(Kind::AbstractFloat);
+    /// `i32`
+    pub const I32: Type = Type::Scalar(Kind::I32);
+    /// `u32`
+    pub const U32: Type = Type::Scalar(Kind::U32);
+    /// `f32`
+    pub const F32: Type = Type::Scalar(Kind::F32);
+    /// `f16`
+    pub const F16: Type = Type::Scalar(Kind::F16);
+
+    /// A vector type.
+    pub const fn vector(n: u8, kind: Kind) -> Type {
+        Type::Vector { n, kind }
+    }
+
+    /// A matrix type.
+    pub const fn matrix(columns: u8, rows: u8, kind: Kind) -> Type {
+        Type::Matrix { columns, rows, kind }
+    }
+
     /// An array type.
     pub fn array(count: u16, element: Type) -> Type {
         Type::Array { count, element: Box::new(element) }
+    }
+
+    /// A struct type.
+    pub fn structure(identity: u16, members: impl IntoIterator<Item = Type>) -> Type {
+        Type::Struct { identity, members: members.into_iter().collect() }
     }
 
     /// The record. An error only where there is none: deeper than 15, or a number that its field can't hold.
@@ -73,7 +103,8 @@ impl Type {
         }
     }
 
-    /// The length of the record of a value of this type, as far as a `usize` goes. The type is not too deep to have a record.
+    /// The length of the record of a value of this type, as far as a `usize` goes. The type is not too deep to have a
+    /// record.
     pub(crate) fn value_length(&self) -> usize {
         match self {
             Type::Scalar(_) => LITERAL,
@@ -94,7 +125,7 @@ impl Type {
             Type::Matrix { columns, rows, kind } => {
                 side(*columns)?;
                 side(*rows)?;
-                kind.is_float().then_some(()).ok_or("a matrix that isn't of floats")
+                is_float(*kind).then_some(()).ok_or("a matrix that isn't of floats")
             }
             Type::Array { count: 0, .. } => Err("an array without elements"),
             Type::Array { element, .. } => element.shaped(),
@@ -104,6 +135,17 @@ impl Type {
             Type::Struct { members, .. } => members.iter().try_for_each(Type::shaped),
         }
     }
+}
+
+impl From<Kind> for Type {
+    fn from(kind: Kind) -> Type {
+        Type::Scalar(kind)
+    }
+}
+
+/// Whether a matrix can have the kind.
+fn is_float(kind: Kind) -> bool {
+    matches!(kind, Kind::AbstractFloat | Kind::F32 | Kind::F16)
 }
 
 /// The length of a literal's record.
@@ -195,5 +237,5 @@ fn read_scalar(reader: &mut Reader<'_>) -> Result<Kind, Malformed> {
 
 pub(crate) fn read_kind(reader: &mut Reader<'_>) -> Result<Kind, Malformed> {
     let at = reader.at();
-    Kind::from_number(reader.u8()?).ok_or(Malformed::new(at, "a kind over 6"))
+    Kind::try_from(reader.u8()?).map_err(|malformed| malformed.after(at))
 }

@@ -1,7 +1,7 @@
 use crate::{
-    record::{self, below, write_u16, write_u8, Malformed, Reader, Record, DEPTH},
+    record::{self, below, write_u16, write_u8, Reader, Record, DEPTH},
     ty::read_kind,
-    Kind, Literal, Type,
+    Kind, Literal, Malformed, Type,
 };
 
 /// A value.
@@ -25,6 +25,53 @@ pub enum Value {
 }
 
 impl Value {
+    /// A vector of these components: `Value::vector([0.5, 2.0])` is one of AbstractFloat, `Value::vector([1u32, 2])`
+    /// one of U32.
+    pub fn vector(components: impl IntoIterator<Item = impl Into<Literal>>) -> Value {
+        Value::Vector(literals(components))
+    }
+
+    /// A matrix of these columns: `Value::matrix([[1f32, 0.0], [0.0, 1.0]])`.
+    pub fn matrix(columns: impl IntoIterator<Item = impl IntoIterator<Item = impl Into<Literal>>>) -> Value {
+        Value::Matrix(columns.into_iter().map(literals).collect())
+    }
+
+    /// An array of these elements: `Value::array([1180.5, 4400.25])`.
+    pub fn array(elements: impl IntoIterator<Item = impl Into<Value>>) -> Value {
+        Value::Array(elements.into_iter().map(Into::into).collect())
+    }
+
+    /// A struct of these members: `Value::structure(1, [0.5.into(), Value::vector([1f32, 2.0])])`.
+    pub fn structure(identity: u16, members: impl IntoIterator<Item = Value>) -> Value {
+        Value::Struct { identity, members: members.into_iter().collect() }
+    }
+
+    /// All its scalars in order.
+    pub fn literals(&self) -> Vec<Literal> {
+        let mut all = Vec::new();
+        self.gather(&mut all);
+        all
+    }
+
+    fn gather(&self, all: &mut Vec<Literal>) {
+        match self {
+            Value::Scalar(literal) => all.push(*literal),
+            Value::Vector(components) => all.extend(components),
+            Value::Matrix(columns) => all.extend(columns.iter().flatten()),
+            Value::Array(parts) | Value::Struct { members: parts, .. } => {
+                parts.iter().for_each(|part| part.gather(all))
+            }
+        }
+    }
+
+    /// The literal of a scalar.
+    fn literal(&self) -> Option<Literal> {
+        match self {
+            Value::Scalar(literal) => Some(*literal),
+            _ => None,
+        }
+    }
+
     /// The record. An error only where there is none: deeper than 15, or more parts than their count can say.
     /// Otherwise the tree is written as it is, and the library judges it.
     pub fn encode(&self) -> Result<Vec<u8>, Malformed> {
@@ -86,6 +133,36 @@ impl Value {
     }
 }
 
+/// What [`Literal`] reads back, of a value that is one.
+macro_rules! read_back {
+    ($($name:ident as $number:ident;)+) => {
+        impl Value {
+            $(
+                #[doc = concat!("[`Literal::", stringify!($name), "`] of a scalar; none of any other value.")]
+                pub fn $name(&self) -> Option<$number> {
+                    self.literal()?.$name()
+                }
+            )+
+        }
+    };
+}
+
+read_back! {
+    as_bool as bool;
+    as_abstract_int as i64;
+    as_abstract_float as f64;
+    as_i32 as i32;
+    as_u32 as u32;
+    as_f32 as f32;
+    as_f16 as u16;
+    as_f64 as f64;
+    as_i64 as i64;
+}
+
+fn literals(components: impl IntoIterator<Item = impl Into<Literal>>) -> Vec<Literal> {
+    components.into_iter().map(Into::into).collect()
+}
+
 /// A length as a byte; 0, which is no side, for one that is too long for a byte and so no side either.
 fn small(length: usize) -> u8 {
     u8::try_from(length).unwrap_or(0)
@@ -95,7 +172,7 @@ fn small(length: usize) -> u8 {
 fn one_kind<'a>(literals: impl IntoIterator<Item = &'a Literal>) -> Result<Kind, &'static str> {
     let mut kind = None;
     for literal in literals {
-        if literal.bits > literal.kind.most() {
+        if literal.bits > largest(literal.kind) {
             return Err("a payload that the kind can't have");
         }
         if *kind.get_or_insert(literal.kind) != literal.kind {
@@ -103,6 +180,16 @@ fn one_kind<'a>(literals: impl IntoIterator<Item = &'a Literal>) -> Result<Kind,
         }
     }
     kind.ok_or("a vector without components")
+}
+
+/// The largest payload: the bits above are zero.
+fn largest(kind: Kind) -> u64 {
+    match kind {
+        Kind::Bool => 1,
+        Kind::AbstractInt | Kind::AbstractFloat => u64::MAX,
+        Kind::I32 | Kind::U32 | Kind::F32 => u32::MAX.into(),
+        Kind::F16 => u16::MAX.into(),
+    }
 }
 
 impl From<Literal> for Value {

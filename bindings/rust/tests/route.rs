@@ -1,4 +1,6 @@
 //! Whole routes: over trees by `Route`, over bytes by `call_batch_bytes`.
+#![cfg(feature = "std")]
+
 use vireodesk::*;
 
 /// What a buffer holds before a call.
@@ -7,47 +9,30 @@ const FILL: u8 = 0xA5;
 /// One call: its stage, its target, its arguments.
 type Constant = (Stage, Target, Vec<Value>);
 
-fn int(number: i64) -> Value {
-    Literal::abstract_int(number).into()
-}
-
-fn float(number: f64) -> Value {
-    Literal::abstract_float(number).into()
-}
-
-fn scalar(kind: Kind) -> Type {
-    Type::Scalar(kind)
-}
-
-fn vector(n: u8) -> Type {
-    Type::Vector { n, kind: Kind::F32 }
-}
-
 /// A tree that has no record, being too deep.
 fn deep() -> Value {
-    (0..16).fold(int(1), |inner, _| Value::Array(vec![inner]))
+    (0..16).fold(Value::from(1i64), |inner, _| Value::array([inner]))
 }
 
 /// The nth constant of a route: some of each shape and stage, between a fifth and a fourth refused.
 fn constant(n: usize) -> Constant {
     let x = n as i64;
-    let member = Value::Vector(vec![Literal::abstract_int(x), Literal::abstract_int(-x)]);
-    let pair = Type::Struct { identity: 7, members: vec![scalar(Kind::F32), vector(2)] };
+    let pair = Type::structure(7, [Type::F32, Type::vector(2, Kind::F32)]);
     let (target, args) = match n % 12 {
-        0 => (scalar(Kind::F32).into(), vec![float(x as f64 + 0.1)]),
-        1 => (vector(3).into(), vec![int(x), float(0.5), int(-x)]),
-        2 => (Target::Array, vec![int(x), float(2.5)]),
-        3 => (scalar(Kind::I32).into(), vec![int(1 << 40)]),
-        4 => (vector(4).into(), vec![]),
-        5 => (Type::Matrix { columns: 2, rows: 2, kind: Kind::F16 }.into(), [1, 2, 3, x].map(int).to_vec()),
-        6 => (Target::Runtime(scalar(Kind::U32)), vec![int(x); 5]),
-        7 => (scalar(Kind::F32).into(), vec![float(1e300)]),
-        8 => (pair.into(), vec![int(x), member]),
-        9 => (Type::array(3, scalar(Kind::I32)).into(), vec![int(1), int(x)]),
-        10 => (Target::Vector(2), vec![int(x), int(2)]),
-        _ => (scalar(Kind::Bool).into(), vec![Literal::f32(x as f32).into()]),
+        0 => (Type::F32.into(), vec![(x as f64 + 0.1).into()]),
+        1 => (Type::vector(3, Kind::F32).into(), vec![x.into(), 0.5.into(), (-x).into()]),
+        2 => (Target::Array, vec![x.into(), 2.5.into()]),
+        3 => (Type::I32.into(), vec![(1i64 << 40).into()]),
+        4 => (Type::vector(4, Kind::F32).into(), vec![]),
+        5 => (Type::matrix(2, 2, Kind::F16).into(), [1, 2, 3, x].map(Value::from).to_vec()),
+        6 => (Target::Runtime(Type::U32), vec![x.into(); 5]),
+        7 => (Type::F32.into(), vec![1e300.into()]),
+        8 => (pair.into(), vec![x.into(), Value::vector([x, -x])]),
+        9 => (Type::array(3, Type::I32).into(), vec![1i64.into(), x.into()]),
+        10 => (Target::Vector(2), vec![x.into(), 2i64.into()]),
+        _ => (Type::BOOL.into(), vec![(x as f32).into()]),
     };
-    ([Stage::Const, Stage::Override, Stage::Exec][n / 12 % 3], target, args)
+    (Stage::ALL[n / 12 % 3], target, args)
 }
 
 fn constants(count: usize) -> Vec<Constant> {
@@ -91,7 +76,8 @@ fn one_by_one(route: &Route, room: usize) -> (Vec<Result<std::ops::Range<usize>,
     (answers, out)
 }
 
-/// The jobs in one call, which has to do as the calls one by one; gives the answered jobs and how many bytes were written.
+/// The jobs in one call, which has to do as the calls one by one; gives the answered jobs and how many bytes were
+/// written.
 fn in_one(route: &Route, room: usize) -> (Vec<Job>, usize) {
     let (mut jobs, mut out) = (route.jobs().to_vec(), vec![FILL; room]);
     let written = call_batch_bytes(route.bytes(), &mut jobs, &mut out).expect("a route's parts are in its slice");
@@ -110,8 +96,7 @@ fn in_one(route: &Route, room: usize) -> (Vec<Job>, usize) {
 #[test]
 fn routes_of_some_lengths() {
     assert_eq!([0, 1, 2, 200, 256].map(|count| folds(&constants(count))), [0, 1, 2, 155, 199]);
-    let more = routed(&constants(257)).fold().unwrap_err();
-    assert_eq!((more.number(), more.to_string().as_str()), (23, "refusal 23: more than 256 jobs"));
+    assert_eq!(routed(&constants(257)).fold(), Err(Refusal::TooManyJobs));
 }
 
 #[test]
@@ -122,30 +107,32 @@ fn refused_jobs_anywhere() {
         assert_eq!(folds(&constants), pattern.matches('y').count(), "{pattern}");
         in_one(&routed(&constants), 1000);
     }
-    let refused = routed(&[good, bad]).fold().unwrap()[1].clone().unwrap_err();
-    assert_eq!((refused.number(), refused.wanted(), refused.given()), (8, Some(3), Some(2)));
+    assert_eq!(routed(&[good, bad]).fold().unwrap()[1], Err(Refusal::Count { wanted: 3, given: 2 }));
 }
 
 #[test]
 fn a_tree_without_a_record_is_refused_alone() {
-    let too_deep = (0..16).fold(scalar(Kind::F32), |element, _| Type::array(1, element));
-    let f32 = Target::from(scalar(Kind::F32));
+    let too_deep = (0..16).fold(Type::F32, |element, _| Type::array(1, element));
     let constants = [
-        (Stage::Const, too_deep.clone().into(), vec![int(1)]),
-        (Stage::Const, f32.clone(), vec![deep()]),
+        (Stage::Const, too_deep.clone().into(), vec![1i64.into()]),
+        (Stage::Const, Type::F32.into(), vec![deep()]),
         (Stage::Const, too_deep.into(), vec![deep()]),
-        (Stage::Const, f32, vec![int(1)]),
+        (Stage::Const, Type::F32.into(), vec![1i64.into()]),
     ];
     assert_eq!(folds(&constants), 1);
-    let numbers = routed(&constants).fold().unwrap().into_iter().map(|answer| answer.map_err(|no| no.number()));
-    assert_eq!(numbers.collect::<Vec<_>>(), [Err(1), Err(2), Err(1), Ok(Literal::f32(1.0).into())]);
+    let (bad_target, bad_argument) = (Err(Refusal::BadTarget), Err(Refusal::BadArgument));
+    let route = routed(&constants);
+    assert_eq!(route.fold().unwrap(), [bad_target.clone(), bad_argument, bad_target, Ok(1f32.into())]);
+    // Only a target with a record takes room.
+    assert_eq!(route.room(), 2 * 11);
 }
 
 #[test]
 fn equal_records_are_kept_once() {
     let mut route = Route::new();
-    let (f32, vec2) = (Target::from(scalar(Kind::F32)), Target::from(vector(2)));
-    for (target, args) in [(&f32, &[int(1)][..]), (&vec2, &[int(1)]), (&f32, &[]), (&f32, &[int(1)]), (&vec2, &[])] {
+    let (f32, vec2) = (Target::from(Type::F32), Target::from(Type::vector(2, Kind::F32)));
+    let one = &[Value::from(1i64)][..];
+    for (target, args) in [(&f32, one), (&vec2, one), (&f32, &[]), (&f32, one), (&vec2, &[])] {
         route.push(Stage::Const, target, args);
     }
     assert_eq!(route.bytes(), b"Ts\x05Vs\x01\x01\0\0\0\0\0\0\0Tv\x02Ts\x05");
@@ -158,7 +145,7 @@ fn equal_records_are_kept_once() {
 
     // A stage is no part of a record, and a copy goes its own way.
     let mut copy = route.clone();
-    copy.push(Stage::Exec, &Target::Array, &[int(1)]);
+    copy.push(Stage::Exec, &Target::Array, &[1i64.into()]);
     assert_eq!((copy.bytes().len(), route.bytes().len(), copy.len(), route.len()), (22, 20, 6, 5));
 }
 
@@ -177,25 +164,25 @@ fn a_buffer_of_any_length() {
     for room in (0..=200).chain(exact - 100..=exact + 1) {
         in_one(&route, room);
     }
-    let last = |room| in_one(&route, room).0[29].result().map_err(|refusal| refusal.number());
+    let last = |room| in_one(&route, room).0[29].result();
     assert_eq!([last(exact), last(exact + 1)], [Ok(exact - 54..exact), Ok(exact - 54..exact)]);
-    assert_eq!(last(exact - 1), Err(22));
+    assert_eq!(last(exact - 1), Err(Refusal::NoRoom));
 }
 
 #[test]
 fn a_short_record_follows_one_that_does_not_fit() {
     let route = routed(&[constant(4), constant(1), constant(0), constant(0)]);
     let (jobs, written) = in_one(&route, 47 + 11 + 10);
-    let answers: Vec<_> = jobs.iter().map(|job| job.result().map_err(|refusal| refusal.number())).collect();
-    assert_eq!(answers, [Ok(0..47), Err(22), Ok(47..58), Err(22)]);
+    let answers: Vec<_> = jobs.iter().map(Job::result).collect();
+    assert_eq!(answers, [Ok(0..47), Err(Refusal::NoRoom), Ok(47..58), Err(Refusal::NoRoom)]);
     assert_eq!((written, jobs.iter().map(Job::at).collect()), (58, vec![0, 47, 47, 58]));
 }
 
 #[test]
 fn a_route_of_more_than_the_longest_record() {
     // 65,535 rows of 12 zeros are 4 + 65535 * (4 + 12 * 11) bytes, over half of 16 MiB; rows of 23 are over all of it.
-    let rows = |n| Type::array(65535, Type::array(n, scalar(Kind::I32)));
-    let vast = (0..15).fold(scalar(Kind::I32), |element, _| Type::array(65535, element));
+    let rows = |n| Type::array(65535, Type::array(n, Type::I32));
+    let vast = (0..15).fold(Type::I32, |element, _| Type::array(65535, element));
     let zeros = |ty: Type| (Stage::Exec, ty.into(), vec![]);
     let constants = [zeros(rows(12)), constant(0), zeros(rows(23)), zeros(rows(12)), zeros(vast), constant(1)];
     let route = routed(&constants);
@@ -221,11 +208,11 @@ fn a_stage_is_any_byte() {
 }
 
 /// A call that has to be refused as a whole leaves the buffer and the jobs, answered by an earlier call, as they were.
-fn refused(bytes: &[u8], jobs: &[Job]) -> u64 {
+fn refused(bytes: &[u8], jobs: &[Job]) -> Refusal {
     let (mut after, mut out) = (jobs.to_vec(), [FILL; 4096]);
-    let number = call_batch_bytes(bytes, &mut after, &mut out).unwrap_err().number();
+    let refusal = call_batch_bytes(bytes, &mut after, &mut out).unwrap_err();
     assert_eq!((&after[..], out), (jobs, [FILL; 4096]));
-    number
+    refusal
 }
 
 #[test]
@@ -241,7 +228,7 @@ fn a_part_outside_the_slice_refuses_the_call() {
             for of_target in [true, false] {
                 let mut jobs = answered.clone();
                 *(if of_target { &mut jobs[at].target } else { &mut jobs[at].args }) = part;
-                assert_eq!(refused(bytes, &jobs), 24, "{part:?} in job {at}");
+                assert_eq!(refused(bytes, &jobs), Refusal::PartOutside, "{part:?} in job {at}");
             }
         }
     }
@@ -251,7 +238,7 @@ fn a_part_outside_the_slice_refuses_the_call() {
         assert_eq!(call_batch_bytes(bytes, &mut jobs, &mut [0; 11]), Ok(if number == 0 { 11 } else { 0 }));
         assert_eq!(jobs[0].result().map_or_else(|refusal| refusal.number(), |_| 0), number);
     }
-    assert_eq!(refused(b"", &[Job::new(9, part((1, 0)), part((0, 0)))]), 24);
+    assert_eq!(refused(b"", &[Job::new(9, part((1, 0)), part((0, 0)))]), Refusal::PartOutside);
 }
 
 #[test]
@@ -259,12 +246,12 @@ fn too_many_jobs_refuse_the_call_first() {
     let route = routed(&constants(200));
     let (answered, _) = in_one(&route, 1 << 16);
     let mut jobs: Vec<_> = answered.iter().chain(&answered).copied().collect();
-    assert_eq!(refused(route.bytes(), &jobs), 23);
+    assert_eq!(refused(route.bytes(), &jobs), Refusal::TooManyJobs);
     jobs[0].args.start = usize::MAX;
     for count in [257, 400] {
-        assert_eq!(refused(route.bytes(), &jobs[..count]), 23);
+        assert_eq!(refused(route.bytes(), &jobs[..count]), Refusal::TooManyJobs);
     }
-    assert_eq!(refused(route.bytes(), &jobs[..256]), 24);
+    assert_eq!(refused(route.bytes(), &jobs[..256]), Refusal::PartOutside);
     assert_eq!(MOST_JOBS, 256);
 }
 

@@ -20,18 +20,17 @@ pub fn reply(call: &Call, out: &mut [u8]) -> Reply {
         Entry::CallCtor => call_ctor_bytes(call.stage, target, args, out),
         Entry::TypeCtor => type_ctor_bytes(target, args, out),
         Entry::ConvertTo => convert_to_bytes(target, args, out),
-        Entry::ConversionRank => return conversion_rank_bytes(target, args).map_or_else(refused, rank),
+        Entry::ConversionRank => {
+            return conversion_rank_bytes(target, args).map_or_else(refused, |rank| Reply::Rank(rank.into()));
+        }
     };
     record.map_or_else(refused, Reply::Record)
 }
 
-/// A rank past 32 bits becomes the largest one, which the Rust never gives.
-fn rank(rank: u64) -> Reply {
-    Reply::Rank(u32::try_from(rank).unwrap_or(u32::MAX))
-}
-
-/// A number past 8 bits becomes `None`, which is due to no call.
 fn refused(refusal: vireodesk::Refusal) -> Reply {
-    let counts = refusal.wanted().zip(refusal.given()).map(|(wanted, given)| (wanted as usize, given as usize));
-    Reply::Refused(Refusal { number: u8::try_from(refusal.number()).ok(), counts })
+    let counts = match refusal {
+        vireodesk::Refusal::Count { wanted, given } => Some((wanted as usize, given as usize)),
+        _ => None,
+    };
+    Reply::Refused(Refusal { number: Some(refusal.number()), counts })
 }

@@ -46,7 +46,11 @@ fn one_nan(value: &mut Value) {
 }
 
 fn refused(refusal: Refusal) -> Answer {
-    Answer::No(refusal.number(), refusal.wanted().zip(refusal.given()))
+    let counts = match refusal {
+        Refusal::Count { wanted, given } => Some((wanted, given)),
+        _ => None,
+    };
+    Answer::No(refusal.number(), counts)
 }
 
 /// The call over bytes. Also: a refusal leaves the buffer alone, and a record the bytes past it.
@@ -71,7 +75,7 @@ fn by_trees(line: &Line) -> Answer {
     let target = Target::decode(&line.target).expect("the list's targets are well formed");
     let types = || Type::decode_list(&line.args).expect("the list's types are well formed");
     let values = || Value::decode_list(&line.args).expect("the list's values are well formed");
-    let stage = [Stage::Const, Stage::Override, Stage::Exec][usize::from(line.stage)];
+    let stage = Stage::try_from(line.stage).expect("the list's stages are stages");
     let record = |record: Result<Vec<u8>, Malformed>| Answer::Record(record.expect("it has a record"));
     match line.entry.as_str() {
         "call_ctor" => call_ctor(stage, &target, &values()).map_or_else(refused, |value| record(value.encode())),
@@ -97,6 +101,10 @@ fn the_whole_list() {
                 "line {}, too little room",
                 line.number
             );
+            // What `convert_to` makes room for: the argument's length. For `call_ctor` see batches.rs.
+            if line.entry == "convert_to" {
+                assert_eq!(record.len(), line.args.len(), "line {}, the converted length", line.number);
+            }
         }
     }
 }

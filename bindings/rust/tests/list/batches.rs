@@ -31,7 +31,7 @@ fn over_trees(lines: &[Line]) {
     for line in lines {
         let target = Target::decode(&line.target).expect("the list's targets are well formed");
         let args = Value::decode_list(&line.args).expect("the list's values are well formed");
-        let stage = [Stage::Const, Stage::Override, Stage::Exec][usize::from(line.stage)];
+        let stage = Stage::try_from(line.stage).expect("the list's stages are stages");
         let before = route.room();
         route.push(stage, &target, &args);
         alone.push(call_ctor(stage, &target, &args));

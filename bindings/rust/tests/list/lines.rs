@@ -17,9 +17,9 @@ pub struct Line {
 #[derive(Clone, Debug, PartialEq)]
 pub enum Answer {
     Record(Vec<u8>),
-    Rank(u64),
+    Rank(u8),
     /// The number, and the two counts of 8.
-    No(u64, Option<(u64, u64)>),
+    No(u8, Option<(u64, u64)>),
 }
 
 pub fn lines() -> Vec<Line> {

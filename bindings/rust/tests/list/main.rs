@@ -1,4 +1,6 @@
 //! The fixed list reference/answers.txt: its calls and its records.
+#![cfg(feature = "std")]
+
 mod answers;
 mod batches;
 mod lines;

@@ -1,18 +1,19 @@
-//! Records to trees and back: every record of the fixed list, damaged ones, and the limits. What is well formed, the library says too: `convert_to`
-//! and `conversion_rank` refuse with 2 exactly where their argument is not one well-formed record.
+//! Records to trees and back: every record of the fixed list, damaged ones, and the limits. What is well formed, the
+//! library says too: `convert_to` and `conversion_rank` refuse with 2 exactly where their argument is not one
+//! well-formed record.
 use crate::lines::{lines, Answer};
 use vireodesk::*;
 
 fn library_takes_value(bytes: &[u8]) -> bool {
-    convert_to_bytes(b"Ts\x05", bytes, &mut [0; 16]).map_or_else(|refusal| refusal.number() != 2, |_| true)
+    convert_to_bytes(b"Ts\x05", bytes, &mut [0; 16]) != Err(Refusal::BadArgument)
 }
 
 fn library_takes_type(bytes: &[u8]) -> bool {
-    conversion_rank_bytes(b"Ts\x05", bytes).map_or_else(|refusal| refusal.number() != 2, |_| true)
+    conversion_rank_bytes(b"Ts\x05", bytes) != Err(Refusal::BadArgument)
 }
 
 fn library_takes_target(bytes: &[u8]) -> bool {
-    call_ctor_bytes(0, bytes, b"", &mut []).map_or_else(|refusal| refusal.number() != 1, |_| true)
+    call_ctor_bytes(0, bytes, b"", &mut []) != Err(Refusal::BadTarget)
 }
 
 fn values_return(bytes: &[u8]) -> Vec<Value> {
@@ -65,7 +66,8 @@ fn decode_takes_what_the_library_takes() {
         let of_values = ["call_ctor", "convert_to"].contains(&line.entry.as_str());
         let mut bytes = line.args;
         judge(&bytes, of_values);
-        // One byte in seven is damaged, each in several ways, beginning at a place that moves with the line; and the record is cut there.
+        // One byte in seven is damaged, each in several ways, beginning at a place that moves with the line; and the
+        // record is cut there.
         for at in (line.number % 7..bytes.len()).step_by(7) {
             judge(&bytes[..at], of_values);
             let kept = bytes[at];
@@ -90,32 +92,29 @@ fn decode_takes_what_the_library_takes() {
 
 #[test]
 fn limits() {
-    let f32 = Type::Scalar(Kind::F32);
     let agree = |ty: &Type, good: bool| {
         let bytes = ty.encode().expect("it has a record");
         assert_eq!((Type::decode(&bytes).is_ok(), library_takes_type(&bytes)), (good, good));
     };
-    let members = |count| Type::Struct { identity: 0, members: vec![f32.clone(); count] };
+    let members = |count| Type::structure(0, vec![Type::F32; count]);
     agree(&members(1023), true);
     agree(&members(1024), false);
     agree(&members(0), false);
     // 6 bytes, 7 for each array and 3 for each scalar.
     let padded = |arrays: usize, scalars: usize| {
-        let arrays = std::iter::repeat_n(Type::array(1, f32.clone()), arrays);
-        Type::Struct { identity: 0, members: arrays.chain(std::iter::repeat_n(f32.clone(), scalars)).collect() }
+        Type::structure(0, [vec![Type::array(1, Type::F32); arrays], vec![Type::F32; scalars]].concat())
     };
     assert_eq!(padded(256, 766).encode().map(|bytes| bytes.len()), Ok(4096));
     agree(&padded(256, 766), true);
     assert_eq!(padded(257, 764).encode().map(|bytes| bytes.len()), Ok(4097));
     agree(&padded(257, 764), false);
-    agree(&Type::array(0, f32.clone()), false);
-    agree(&Type::Matrix { columns: 2, rows: 2, kind: Kind::I32 }, false);
+    agree(&Type::array(0, Type::F32), false);
+    agree(&Type::matrix(2, 2, Kind::I32), false);
 
     // Depth 15 passes for a scalar under 15 arrays, a vector under 14, a matrix under 13; one array more is malformed.
-    let row = Value::Vector(vec![Literal::f32(1.0); 2]);
-    let square = Value::Matrix(vec![vec![Literal::f32(1.0); 2]; 2]);
-    for (depth, part) in [(0, Value::from(Literal::f32(1.0))), (1, row), (2, square)] {
-        let nested = |levels| (0..levels).fold(part.clone(), |inner, _| Value::Array(vec![inner]));
+    let (row, square) = (Value::vector([1f32; 2]), Value::matrix([[1f32; 2]; 2]));
+    for (depth, part) in [(0, Value::from(1f32)), (1, row), (2, square)] {
+        let nested = |levels| (0..levels).fold(part.clone(), |inner, _| Value::array([inner]));
         let most = nested(15 - depth);
         let bytes = most.encode().expect("depth 15 has a record");
         assert_eq!((Value::decode(&bytes).as_ref(), library_takes_value(&bytes)), (Ok(&most), true));
