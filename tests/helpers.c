@@ -1,8 +1,7 @@
-/* The inline functions of bindings/c/vireodesk.h: NULL with length 0 is nothing, to every entry; and each helper appends its record, whole where there is room for it, with
- * nothing written past the room. Prints what is wrong; exits with 0 where nothing is. */
-#include <stdio.h>
-
-#include "vireodesk.h"
+/* The inline functions of bindings/c. NULL with length 0 is nothing, to every entry; each helper appends its record, whole
+ * where there is room for it, with nothing written past the room; and what prints takes any bytes, which the compiler's
+ * checks see to where it has them. Prints what is wrong; exits with 0 where nothing is. */
+#include "vireodesk_text.h"
 
 static int wrong;
 static void expect(int holds, const char *what)
@@ -83,9 +82,54 @@ static void appended(void)
     }
 }
 
+static uint32_t draw(void)
+{
+    static uint64_t state = 1;
+    state = state * 6364136223846793005u + 1442695040888963407u;
+    return (uint32_t)(state >> 33);
+}
+
+/* marks, small numbers and any bytes, in a block of just their length */
+static uint8_t *drawn(size_t len)
+{
+    static const char marks[][3] = {"Vs", "Vv", "Vm", "Va", "Vu", "Ts", "Tv", "Tm", "Ta", "Tu", "Tr", "Qa", "Qv", "Qm"};
+    uint8_t *bytes = malloc(len ? len : 1);
+    if (!bytes) exit(2);
+    for (size_t at = 0; at < len;) {
+        const uint32_t what = draw() % 6;
+        if (what < 3 && at + 2 <= len) memcpy(bytes + at, marks[draw() % 14], 2), at += 2;
+        else bytes[at++] = (uint8_t)(what == 3 ? draw() : draw() % 8);
+    }
+    return bytes;
+}
+
+static void printed(void)
+{
+    FILE *nowhere = fopen("/dev/null", "w");
+    if (!nowhere) exit(2);
+    for (int i = 0; i < 200000; i++) {
+        const size_t len = draw() % 60, half = draw() % (len + 1);
+        uint8_t *bytes = drawn(len);
+        vireo_print_values(nowhere, bytes, len);
+        vireo_print_call(nowhere, bytes, half, bytes + half, len - half);
+        free(bytes);
+    }
+    /* nests that are far too deep */
+    enum { DEPTH = 100000 };
+    uint8_t *deep = malloc(4 * DEPTH);
+    if (!deep) exit(2);
+    for (int i = 0; i < DEPTH; i++) memcpy(deep + 4 * i, "Va\xFF\xFF", 4);
+    vireo_print_values(nowhere, deep, 4 * DEPTH);
+    for (int i = 0; i < DEPTH; i++) memcpy(deep + 4 * i, "Ta\1\0", 4);
+    vireo_print_target(nowhere, deep, 4 * DEPTH);
+    free(deep);
+    fclose(nowhere);
+}
+
 int main(void)
 {
     nothing();
     appended();
+    printed();
     return wrong;
 }

@@ -3,7 +3,8 @@
  * a storage buffer has it, and read back from there. All of it is printed in words.
  *
  * bindings/library vireodesk
- * gcc -I bindings/c -o example bindings/c/example.c target/staticlib/libvireodesk.a && ./example */
+ * gcc -I bindings/c -o target/example bindings/c/example.c target/staticlib/libvireodesk.a
+ * target/example */
 #include "vireodesk_text.h"
 
 /* The targets and arguments of all jobs, one after another. */
@@ -71,9 +72,11 @@ static void storage(struct vireo_part type_part, const uint8_t *members, size_t 
     show("struct", made, record);
     if (made.refusal) return;
     const struct vireo_answer laid = vireo_write_layout(record, made.value, memory, sizeof memory);
-    printf("storage buffer: %" PRIu64 " bytes, at a multiple of %" PRIu64 "\n", layout.size, layout.align);
+    printf("storage buffer: %" PRIu64 " bytes, at a multiple of %" PRIu64 "\n",
+           layout.size, layout.align);
     vireo_print_hex(stdout, memory, laid.value);
-    const struct vireo_answer read = vireo_read_layout(type, type_len, memory, laid.value, back, sizeof back);
+    const struct vireo_answer read =
+        vireo_read_layout(type, type_len, memory, laid.value, back, sizeof back);
     const int same = !read.refusal && read.value == made.value && !memcmp(back, record, made.value);
     printf("\nread back: %s\n", same ? "the same" : "another");
 }
@@ -81,7 +84,8 @@ static void storage(struct vireo_part type_part, const uint8_t *members, size_t 
 int main(void)
 {
     static const char *const names[] = {"bore", "chainage", "two valves of three", "valves"};
-    const double bore[] = {0.508}, chainage[] = {0, 6204.75, 12410}, valves[] = {1180.5, 4400.25, 9031};
+    const double bore[] = {0.508}, chainage[] = {0, 6204.75, 12410};
+    const double valves[] = {1180.5, 4400.25, 9031};
     enum { JOBS = sizeof names / sizeof *names };
     uint8_t out[128];
 
@@ -98,7 +102,8 @@ int main(void)
         return 1;
     }
 
-    const struct vireo_answer whole = vireo_call_batch(bytes, records.len, jobs, JOBS, out, sizeof out);
+    const struct vireo_answer whole =
+        vireo_call_batch(bytes, records.len, jobs, JOBS, out, sizeof out);
     if (whole.refusal) { /* then the list holds no answers */
         show("route", whole, out);
         return 1;

@@ -6,7 +6,7 @@
  * the arguments' records in hex, `-` for none; what follows `#` is its name. Empty lines, and lines
  * that begin with `#`, are passed over.
  *
- * gcc -O2 -I bindings/c -o fold bindings/c/fold.c target/staticlib/libvireodesk.a */
+ * gcc -O2 -I bindings/c -o target/fold bindings/c/fold.c target/staticlib/libvireodesk.a */
 #include <ctype.h>
 #include <errno.h>
 
@@ -78,13 +78,15 @@ static int put_hex(struct vireo_records *to, const char **line, struct vireo_par
 }
 
 /* Whether the line is a call, or nothing at all, where its stage's word is empty. */
-static int read_call(struct call *call, const char *line, struct vireo_records *records, int *empty)
+static int read_call(struct call *call, const char *line, struct vireo_records *records,
+                     int *empty)
 {
     const char *stage, *more;
     const size_t len = next_word(&line, &stage);
     call->job.stage = (uint8_t)digit(*stage);
     *empty = !len;
-    const int good = put_hex(records, &line, &call->job.target) && put_hex(records, &line, &call->job.args);
+    const int good = put_hex(records, &line, &call->job.target) &&
+                     put_hex(records, &line, &call->job.args);
     const int over = next_word(&line, &more) > 0;
     call->name = line;
     return *empty || (len == 1 && digit(*stage) >= 0 && good && call->job.target.len && !over);
@@ -99,11 +101,12 @@ static struct call *read_calls(const char *path, struct vireo_records *records, 
     *count = 0;
     for (const char *at = file_text(path); *at; at += *at == '\n') {
         /* room for as many again whenever the number is a power of two */
-        if (!(*count & (*count - 1))) calls = some(realloc(calls, (2 * *count + 1) * sizeof *calls));
+        if (!(*count & (*count - 1)))
+            calls = some(realloc(calls, (2 * *count + 1) * sizeof *calls));
         calls[*count].line = ++line;
         if (!read_call(&calls[*count], at, records, &empty)) {
-            fprintf(stderr, "fold: %s:%zu: no call: a stage, a target and arguments in hex, - for none\n",
-                    path, line);
+            fprintf(stderr, "fold: %s:%zu: no call: a stage, a target and arguments in hex, "
+                    "- for none\n", path, line);
             exit(2);
         }
         *count += !empty;
@@ -137,7 +140,8 @@ static void print_call(const struct vireo_job *job, const uint8_t *target, const
 }
 
 /* The value's bytes for a storage buffer, or why it has none. They are fewer than its record's. */
-static void print_storage(const uint8_t *record, size_t len, const uint8_t *target, size_t target_len)
+static void print_storage(const uint8_t *record, size_t len,
+                          const uint8_t *target, size_t target_len)
 {
     uint8_t *memory = some(malloc(len));
     const struct vireo_answer laid = vireo_write_layout(record, len, memory, len);
@@ -178,12 +182,14 @@ static void print_folded(const struct call *call, const uint8_t *bytes, const ui
 }
 
 /* One call of the library. Gives how many constants it refused. */
-static size_t fold(struct call *calls, size_t count, const struct vireo_records *records, uint8_t *out)
+static size_t fold(struct call *calls, size_t count, const struct vireo_records *records,
+                   uint8_t *out)
 {
     struct vireo_job jobs[VIREO_MOST_JOBS];
     size_t refused = 0;
     for (size_t i = 0; i < count; i++) jobs[i] = calls[i].job;
-    vireo_call_batch(records->bytes, records->len, jobs, count, out, ROOM); /* at most 256, all inside */
+    /* never refused as a whole: at most 256 jobs, and all their parts are inside */
+    vireo_call_batch(records->bytes, records->len, jobs, count, out, ROOM);
     for (size_t i = 0; i < count; i++) {
         calls[i].job = jobs[i];
         print_folded(&calls[i], records->bytes, out);

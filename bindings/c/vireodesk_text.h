@@ -35,49 +35,82 @@ struct vireo_refusal_text {
 static inline struct vireo_refusal_text vireo_refusal_text(uint64_t refusal)
 {
     static const struct vireo_refusal_text rows[] = {
-        {1, "The target is no well-formed record, or a shape (`Qa`, `Qv`, `Qm`) where a conversion needs a type",
+        {1,
+         "The target is no well-formed record, or a shape (`Qa`, `Qv`, `Qm`) where a conversion "
+         "needs a type",
          "Mend the encoder: marks, counts, at most 15 levels and 4,096 bytes."},
-        {2, "An argument is no well-formed record; or there are too many, or another number than one for a conversion",
-         "Mend the encoder: one kind in a vector, one type in an array, zero in unused payload bytes, at most 65,535 arguments."},
-        {3, "The stage is over 2",
+        {2,
+         "An argument is no well-formed record; or there are too many, or another number than one"
+         " for a conversion",
+         "Mend the encoder: one kind in a vector, one type in an array, zero in unused payload "
+         "bytes, at most 65,535 arguments."},
+        {3,
+         "The stage is over 2",
          "0 is Const, 1 Override, 2 Exec."},
-        {4, "Nothing to construct: an abstract scalar type with arguments, typing of one, or a runtime-sized array without arguments",
+        {4,
+         "Nothing to construct: an abstract scalar type with arguments, typing of one, or a "
+         "runtime-sized array without arguments",
          "Name a concrete type, or give the array its elements."},
-        {5, "A scalar type with two or more arguments (typing: also with one that is no scalar)",
+        {5,
+         "A scalar type with two or more arguments (typing: also with one that is no scalar)",
          "Give it one scalar."},
-        {6, "A scalar type with one argument that is no scalar",
+        {6,
+         "A scalar type with one argument that is no scalar",
          "Take the component that is meant."},
-        {7, "Shape or type mismatch: a vector or matrix of another size; typing: an array element that does not convert",
+        {7,
+         "Shape or type mismatch: a vector or matrix of another size; typing: an array element "
+         "that does not convert",
          "Give it the size or the type that the target has."},
-        {8, "Another number than the target takes; `wanted` and `given` say which",
+        {8,
+         "Another number than the target takes; `wanted` and `given` say which",
          "Add or drop arguments: nothing is filled up or cut off."},
-        {9, "An argument does not convert to what the target wants, by its type or because a literal does not fit",
+        {9,
+         "An argument does not convert to what the target wants, by its type or because a literal"
+         " does not fit",
          "Write the conversion as a constructor (`f32(x)`), or a literal within range."},
-        {10, "No common type, or a component that does not convert to it (typing: also an untemplated array without arguments)",
+        {10,
+         "No common type, or a component that does not convert to it (typing: also an untemplated"
+         " array without arguments)",
          "Make the parts one type, or name the type in the target."},
-        {11, "An untemplated array or matrix without arguments (typing: a matrix alone)",
+        {11,
+         "An untemplated array or matrix without arguments (typing: a matrix alone)",
          "Name a type, whose zero value it then is, or give arguments."},
-        {12, "A vector's part is neither scalar nor vector, or one vector is to become an abstract vector type",
+        {12,
+         "A vector's part is neither scalar nor vector, or one vector is to become an abstract "
+         "vector type",
          "Give scalars and vectors; name a concrete kind."},
-        {13, "A matrix of something else than floats, or one matrix into a matrix type of AbstractFloat",
+        {13,
+         "A matrix of something else than floats, or one matrix into a matrix type of "
+         "AbstractFloat",
          "Convert to f32 or f16 first."},
-        {14, "A column of another length than the matrix has rows",
+        {14,
+         "A column of another length than the matrix has rows",
          "Give columns of that length: short ones are not taken."},
-        {15, "An AbstractInt outside i32 or u32",
+        {15,
+         "An AbstractInt outside i32 or u32",
          "Correct the number, or choose the other kind."},
-        {16, "Typing of a runtime-sized array or of an abstract vector type",
+        {16,
+         "Typing of a runtime-sized array or of an abstract vector type",
          "Name the count, or a concrete kind."},
-        {21, "Outside the float's range, or NaN, at Const or Override",
-         "Correct the number; at Exec it is rounded all the same, to an infinity where it is too large, and a NaN stays one."},
-        {22, "The record, or the value in memory, is longer than the lent buffer; nothing was written",
+        {21,
+         "Outside the float's range, or NaN, at Const or Override",
+         "Correct the number; at Exec it is rounded all the same, to an infinity where it is too "
+         "large, and a NaN stays one."},
+        {22,
+         "The record, or the value in memory, is longer than the lent buffer; nothing was written",
          "Lend more: the length follows from the type."},
-        {23, "More than 256 jobs in one call",
+        {23,
+         "More than 256 jobs in one call",
          "Make two calls of them."},
-        {24, "A job's part reaches outside the slice, or is empty and begins past its end",
+        {24,
+         "A job's part reaches outside the slice, or is empty and begins past its end",
          "Mend the job's starts and lengths."},
-        {25, "The type holds Bool, an abstract kind or a runtime-sized array, which have no place in a buffer",
+        {25,
+         "The type holds Bool, an abstract kind or a runtime-sized array, which have no place in "
+         "a buffer",
          "Convert to a 32-bit kind or F16 first; give the array its count."},
-        {26, "The memory read is not as long as the type's size",
+        {26,
+         "The memory read is not as long as the type's size",
          "Hand over exactly the bytes that `layout_of` says."},
         {0, "No number of a refusal", "Link the library of this header's version."},
     };
@@ -144,13 +177,15 @@ static inline double vireo_f16_number(unsigned bits)
     return bits >> 15 ? -number : number;
 }
 
-/* whether digits are read as this f16: no other is nearer to them, and of two as near it is the even one */
+/* whether digits are read as this f16: no other is nearer to them, and of two as near it is the even
+ * one */
 static inline int vireo_reads_f16(const char *digits, unsigned magnitude)
 {
     const double number = vireo_f16_number(magnitude), read = strtod(digits, NULL);
     const double above = magnitude == 0x7BFF ? 65536 : vireo_f16_number(magnitude + 1);
     const double below = vireo_f16_number(magnitude - 1);
-    const double over = 2 * (read - number) - (above - number), under = 2 * (number - read) - (number - below);
+    const double over = 2 * (read - number) - (above - number);
+    const double under = 2 * (number - read) - (number - below);
     return magnitude % 2 ? over < 0 && under < 0 : over <= 0 && under <= 0;
 }
 
@@ -199,7 +234,7 @@ static inline int vireo_cut_digits(char *digits, const char *all, int count, int
  * as near the one farther from zero, which is what Rust prints. */
 static inline void vireo_print_number(FILE *to, double number, unsigned kind, unsigned bits)
 {
-    char text[64], all[41], digits[20];
+    char text[64], all[41], digits[20], read[40];
     int count, power, other, up, i;
     snprintf(text, sizeof text, "%.39e", number);
     all[0] = text[0];
@@ -209,7 +244,6 @@ static inline void vireo_print_number(FILE *to, double number, unsigned kind, un
         for (other = 0; other < 2; other++) {
             up = (all[count] >= '5') != other; /* the nearer one first */
             power = vireo_cut_digits(digits, all, count, atoi(strchr(text, 'e') + 1), up);
-            char read[40];
             snprintf(read, sizeof read, "%c.%.*se%d", digits[0], count - 1, digits + 1, power);
             if (vireo_reads_back(read, number, kind, bits)) {
                 vireo_print_digits(to, digits, count, power);
@@ -366,7 +400,8 @@ static inline void vireo_print_type_at(FILE *to, struct vireo_reader *from)
     case 'u':
         a = (unsigned)vireo_read_number(from, 2);
         if (to) fprintf(to, "Struct%u", a);
-        for (b = (unsigned)vireo_read_number(from, 2); b && !from->bad; b--) vireo_print_type_at(NULL, from);
+        b = (unsigned)vireo_read_number(from, 2);
+        for (; b && !from->bad; b--) vireo_print_type_at(NULL, from);
         break;
     default: from->bad = 1;
     }
