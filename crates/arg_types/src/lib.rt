@@ -1,4 +1,6 @@
 // What typing asks of its arguments, which are types in a row: whether they convert, and the components that they bring to a vector.
+#![tactic(auto)]
+
 ghost use Rattle.std.specs.Prelude.{length};
 ghost use Rattle.ty.specs.Stands.{Standing, Ends, OneType};
 ghost use Rattle.shape.specs.TypeRows.{SomeTypeRow};

@@ -1,4 +1,6 @@
 // The source's `array` and its struct construction (ctor.rs, builtin/mod.rs) on records: decided first, then measured, then written.
+#![tactic(auto)]
+
 ghost use Rattle.std.specs.Prelude.{◌≤◌, ◌+◌, ◌*◌};
 ghost use Rattle.args.specs.Row.{SomeGiven};
 ghost use Rattle.array.specs.Lengths.{Within};

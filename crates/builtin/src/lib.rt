@@ -1,4 +1,6 @@
 // The entry `call_ctor` of the source's builtin/mod.rs: which constructor a target is, by how many arguments there are.
+#![tactic(auto)]
+
 ghost use Rattle.std.specs.Prelude.{◌≤◌, T, length};
 ghost use Rattle.meaning.specs.Trees.{Ts, Tv, Tm, Qa, Qv, Qm};
 ghost use Rattle.meaning.specs.Records.{side};

@@ -1,5 +1,7 @@
 // Document 02, request 01, and document 01's form for it: "A call takes one lent slice and a list of jobs". First a
 // function for one job from plain numbers, then a thin walk over a lent slice of job structs.
+#![tactic(auto)]
+
 ghost use Rattle.std.specs.Prelude.{◌≡◌, ◌+◌, ◌≤◌, ◌<◌, length};
 ghost use Rattle.call_batch.specs.Jobs.{Batched};
 ghost use Rattle.call_batch.specs.Steps.{OneDone, counting, inside_of, judging, doing, Ready, Stepped, closing};

@@ -1,4 +1,6 @@
 // A type record as the target of typing: whether its constructor takes arguments of these types.
+#![tactic(auto)]
+
 ghost use Rattle.std.specs.Prelude.{length};
 ghost use Rattle.ty.specs.Stands.{Standing, Ends, OneType};
 ghost use Rattle.shape.specs.TypeRows.{SomeTypeRow};

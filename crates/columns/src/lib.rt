@@ -1,5 +1,7 @@
 // The arguments of a matrix, once they are known to convert: their shape, and the matrix that has them as its columns,
 // or as the scalars in them.
+#![tactic(auto)]
+
 ghost use Rattle.columns.specs.Columns.{SomeFront, SkipsTo, ColumnRoom, ColumnPut, Scalars, ScalarsRoom, ScalarsPut, Vectors};
 ghost use Rattle.columns.specs.Columns.{RoomFor, SomeMatrix, Hands};
 ghost use Rattle.columns.specs.ColumnParts.{SomeParts, PartsMade};

@@ -1,4 +1,6 @@
 // The common type of a list: the source's `convert_all_ty` (conv.rs) on records in a row, of values and of types.
+#![tactic(auto)]
+
 ghost use Rattle.std.specs.Prelude.{◌≡◌, List, map, length};
 ghost use Rattle.meaning.specs.Trees.{Ty, Val, type_of};
 ghost use Rattle.meaning.specs.Convert.{common};

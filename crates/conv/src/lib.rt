@@ -1,4 +1,6 @@
 // Conversion without a constructor: the source's conv.rs on values' records in lent slices.
+#![tactic(auto)]
+
 ghost use Rattle.std.specs.Prelude.{◌≡◌, ◌≤◌, ◌<◌, ◌+◌, ◌-◌, length, get_or};
 ghost use Rattle.meaning.specs.Scalars.{some?};
 ghost use Rattle.record.specs.Literals.{width_of};

@@ -1,4 +1,6 @@
 // Lists of arguments to one type: the source's `convert_all_to` (conv.rs) on records in a row.
+#![tactic(auto)]
+
 ghost use Rattle.std.specs.Prelude.{◌≡◌, ◌≤◌};
 ghost use Rattle.ty.specs.declared.Head.TheVariants.{Scalar, Vector, Matrix};
 ghost use Rattle.ty.specs.Stands.{OneType};

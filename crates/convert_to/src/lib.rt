@@ -1,4 +1,6 @@
 // The entry `convert_to` of the source's conv.rs: decided first, then measured, then written.
+#![tactic(auto)]
+
 ghost use Rattle.std.specs.Prelude.{◌≡◌, ◌++◌, ◌+◌, ◌-◌, ◌≤◌, length, take, drop};
 ghost use Rattle.meaning.specs.Entries.{convert_answer};
 ghost use Rattle.ty.specs.Stands.{OneType};

@@ -1,4 +1,6 @@
 // The program `ctor`: its standard input to one line.
+#![tactic(auto)]
+
 ghost use Rattle.std.specs.Prelude.{◌≡◌, ◌+◌, ◌≤◌, length};
 ghost use Rattle.meaning.specs.Entries.{build_answer, run_ctor};
 ghost use Rattle.record.specs.Bytes.{Put};

@@ -1,5 +1,7 @@
 // The line that the program `ctor` prints: "It prints `ok` and the record in lower-case hex, or `no` and the number (8:
 // then wanted and given): one line, one space between its parts, numbers in decimal, a newline at the end."
+#![tactic(auto)]
+
 ghost use Rattle.std.specs.Prelude.{◌≡◌, [], ◌∷◌, ◌++◌, ◌+◌, ◌*◌, ◌/◌, ◌%◌, ◌≤◌, ◌<◌, length};
 ghost use Rattle.meaning.specs.Answers.{ok, no, miscount};
 ghost use Rattle.meaning.specs.Entries.{hex_digit, hex, decimal, line};

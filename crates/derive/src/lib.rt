@@ -1,4 +1,6 @@
 // Values of which nothing is known: the front of one, its type written into a lent buffer, and where one that is known to be there ends.
+#![tactic(auto)]
+
 ghost use Rattle.std.specs.Prelude.{◌≡◌, ◌≤◌, length};
 ghost use Rattle.record.specs.Bytes.{Takes, Put};
 ghost use Rattle.inst.specs.Values.{Having, HavingAll, EndsAt, EndsAll};

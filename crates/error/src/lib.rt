@@ -1,4 +1,6 @@
 // The source's error.rs: the refusals by their numbers, and the answer of an entry that writes a record.
+#![tactic(auto)]
+
 ghost use Rattle.std.specs.Prelude.{◌≡◌, length};
 ghost use Rattle.error.specs.Told.{paper, Told};
 ghost use Rattle.error.specs.Numbers.{numbers, in_numbers};

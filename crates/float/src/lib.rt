@@ -3,6 +3,8 @@
 // source's ctor.rs and conv.rs. A format is given by three numbers: p, the digits of its significand with the leading
 // one; emax, its largest exponent; w, the bits of its exponent's field. binary16 is 11, 15, 5; binary32 is 24, 127, 8;
 // binary64 is 53, 1023, 11. A pattern is held in a u64.
+#![tactic(auto)]
+
 ghost use Rattle.std.specs.Prelude.{◌≡◌, cond, ◌+◌, ◌-◌, ◌*◌, ◌/◌, ◌%◌, ◌^◌, ◌≤◌, ◌<◌, min, ltb};
 ghost use Rattle.meaning.specs.Floats.{binary16, binary32, binary64, hid, ones, top, closest, packed, bits, value, integer};
 ghost use Rattle.meaning.specs.Floats as Floats;

@@ -1,4 +1,6 @@
 // An untemplated shape as the target of typing: the type that its arguments' types give.
+#![tactic(auto)]
+
 ghost use Rattle.std.specs.Prelude.{◌≤◌};
 ghost use Rattle.ty.specs.Stands.{Standing, OneType};
 ghost use Rattle.arg_types.specs.Given.{SomeGiven};

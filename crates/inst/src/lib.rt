@@ -1,4 +1,6 @@
 // Value records, read by a type: the source's inst.rs on bytes in a lent slice.
+#![tactic(auto)]
+
 ghost use Rattle.std.specs.Prelude.{◌≡◌, [], ◌∷◌, ◌≤◌, ◌+◌, ◌/◌, ◌%◌, T, length};
 ghost use Rattle.meaning.specs.Kinds.{Kind};
 ghost use Rattle.meaning.specs.Trees.{Ts};

@@ -1,4 +1,6 @@
 // The scalar kind: the scalar types of ty.rs, by their numbers.
+#![tactic(auto)]
+
 ghost use Rattle.std.specs.Prelude.{◌≡◌};
 ghost use Rattle.meaning.specs.Kinds.{is_float, is_abstract, pay_width};
 ghost use Rattle.meaning.specs.Layout.{laid_kind, scalar_size};

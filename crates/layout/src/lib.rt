@@ -1,4 +1,6 @@
 // WGSL's memory layout of a type, from its record: whether it has one, its size and its alignment, and the padding inside it.
+#![tactic(auto)]
+
 ghost use Rattle.std.specs.Prelude.{◌≡◌, ◌+◌, ◌-◌, ◌*◌, ◌≤◌, ◌<◌, max, length};
 ghost use Rattle.meaning.specs.Trees.{Ty};
 ghost use Rattle.meaning.specs.Layout.{has_layout, vec_align, round_up, layout_answer};

@@ -1,5 +1,7 @@
 // One literal: its conversion without a constructor (conv.rs, `Convert for LiteralInstance`), and the scalar
 // constructors (builtin/ctor.rs).
+#![tactic(auto)]
+
 ghost use Rattle.std.specs.Prelude.{◌≡◌, cond, not, ◌&&◌, ◌+◌, ◌≤◌, ◌<◌, ◌^◌, eqb};
 ghost use Rattle.std.proofs.Math.Option.{none, some};
 ghost use Rattle.meaning.specs.Kinds.{bool, aint, afloat, i32, u32, f32, f16, kind_of};

@@ -1,4 +1,6 @@
 // One literal, for programs in other languages that compare with the machine's own conversions: numbers in, one number out.
+#![tactic(auto)]
+
 ghost use Rattle.std.specs.Prelude.{◌≡◌};
 ghost use Rattle.meaning.specs.Floats.{binary16, binary32, binary64, value, bits};
 ghost use Rattle.meaning.specs.Scalars.{some?};

@@ -1,4 +1,6 @@
 // Matrices: the source's `mat` (ctor.rs) on records. Everything is decided first, then measured, then written.
+#![tactic(auto)]
+
 ghost use Rattle.std.specs.Prelude.{◌≡◌, ◌≤◌, T, length, get_or};
 ghost use Rattle.meaning.specs.Records.{side};
 ghost use Rattle.meaning.specs.Build.{same_size};

@@ -1,5 +1,7 @@
 // What the walks over values in memory share; proofs/ has the theorems about WGSL's memory layout, and the laws that
 // the walks are proved by.
+#![tactic(auto)]
+
 ghost use Rattle.std.specs.Prelude.{◌≡◌, ◌≤◌};
 ghost use Rattle.record.specs.Bytes.{Width};
 ghost use Rattle.memory.specs.Sizes.{size_no};

@@ -1,5 +1,7 @@
 // Ranks of conversions without a constructor: the source's conv.rs on types. Between two kinds, between two types'
 // records, and the entry `conversion_rank`.
+#![tactic(auto)]
+
 ghost use Rattle.std.specs.Prelude.{◌≡◌, cond, ◌≤◌, eqb, length};
 ghost use Rattle.std.proofs.Math.Option.{none, some};
 ghost use Rattle.meaning.specs.Kinds.{kind_of, from_aint, from_afloat};

@@ -1,4 +1,6 @@
 // The entry `read_layout`: bytes in WGSL's memory layout, read back by a type. Decided first, then measured, then written.
+#![tactic(auto)]
+
 ghost use Rattle.std.specs.Prelude.{◌≤◌, length};
 ghost use Rattle.meaning.specs.Layout.{read_answer};
 ghost use Rattle.ty.specs.Stands.{OneType};

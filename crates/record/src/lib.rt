@@ -1,4 +1,6 @@
 // The pieces that records are made of: little-endian numbers read and written, marks, copies, and a literal's record.
+#![tactic(auto)]
+
 ghost use Rattle.std.specs.Prelude.{◌≡◌, [], ◌∷◌, ◌≤◌, ◌<◌, ◌+◌, ◌-◌, ◌*◌, ◌/◌, ◌%◌, length, get_or, take, drop};
 ghost use Rattle.meaning.specs.Trees.{lit_len};
 ghost use Rattle.meaning.specs.Records.{‘V’, le};

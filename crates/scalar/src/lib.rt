@@ -1,5 +1,7 @@
 // The scalar constructors of the source's builtin/ctor.rs on records in lent slices: on one literal, and on the
 // literals of a vector or a matrix.
+#![tactic(auto)]
+
 ghost use Rattle.std.specs.Prelude.{◌+◌, ◌≤◌, length, get_or};
 ghost use Rattle.record.specs.Literals.{width_of};
 ghost use Rattle.conv.specs.Items.{SomeItem, SomeItems};

@@ -1,4 +1,6 @@
 // What vectors, matrices and typing ask of the record of a type: where it ends, the kind in it, and whether as many of it make a matrix.
+#![tactic(auto)]
+
 ghost use Rattle.std.specs.Prelude.{◌≡◌, ◌*◌};
 ghost use Rattle.ty.specs.Stands.{Standing};
 ghost use Rattle.shape.specs.Kinds.{KindsMeet, float_found, LitKindAt, InnerKind, GoesDown, FloatInner};

@@ -1,6 +1,8 @@
 // The third demand about the two published entries: specs/ states it by what they return and leave in their buffers,
 // proofs/ shows it. The one function here makes the two calls that the statement speaks of, so that `Calls` is what the
 // entries' contracts say, and not a copy of it.
+#![tactic(auto)]
+
 ghost use Rattle.third_demand.specs.Entries.{Calls};
 
 use error::Written;

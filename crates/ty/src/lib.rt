@@ -1,4 +1,6 @@
 // Type records and targets: the source's ty.rs and tplt.rs on bytes in a lent slice.
+#![tactic(auto)]
+
 ghost use Rattle.std.specs.Prelude.{◌≡◌, ℕ, ◌≤◌, ◌+◌, ◌-◌, ◌*◌, length};
 ghost use Rattle.meaning.specs.Trees.{Tv, Tm, val_len};
 ghost use Rattle.meaning.specs.Records.{side};

@@ -1,5 +1,7 @@
 // The entry `type_ctor` of the source's builtin/mod.rs and builtin/ctor.rs: the type of what a constructor makes, from
 // the types of its arguments.
+#![tactic(auto)]
+
 ghost use Rattle.std.specs.Prelude.{length};
 ghost use Rattle.meaning.specs.Entries.{type_answer};
 ghost use Rattle.error.specs.Told.{Told};

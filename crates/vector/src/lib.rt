@@ -1,4 +1,6 @@
 // Vectors: the source's `vec` (ctor.rs) on records in lent slices. All is decided and measured before a byte is written.
+#![tactic(auto)]
+
 ghost use Rattle.std.specs.Prelude.{◌≡◌, ◌+◌, ◌≤◌, T, get_or};
 ghost use Rattle.meaning.specs.Records.{‘s’, ‘v’, side};
 ghost use Rattle.literal.specs.LiteralAnswers.{SomeStage};

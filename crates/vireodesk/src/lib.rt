@@ -1,4 +1,6 @@
 // The entries for C: numbers, byte slices, and slices of structs that hold numbers. A slice passes as a pointer and then a length.
+#![tactic(auto)]
+
 ghost use Rattle.std.specs.Prelude.{◌≡◌, length};
 ghost use Rattle.meaning.specs.Entries.{rank_answer, convert_answer, build_answer, type_answer};
 ghost use Rattle.meaning.specs.Layout.{write_answer, read_answer, layout_answer};

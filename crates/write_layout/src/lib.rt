@@ -1,4 +1,6 @@
 // The entry `write_layout`: one value in WGSL's memory layout. Decided first, then measured, then written.
+#![tactic(auto)]
+
 ghost use Rattle.std.specs.Prelude.{length};
 ghost use Rattle.meaning.specs.Layout.{zeros, write_answer};
 ghost use Rattle.record.specs.Bytes.{Put, Takes};

@@ -1,4 +1,6 @@
 // "No arguments with a type record: the zero value": measured from the type's record, then written from it.
+#![tactic(auto)]
+
 ghost use Rattle.std.specs.Prelude.{T};
 ghost use Rattle.meaning.specs.Records.{side};
 ghost use Rattle.ty.specs.TypeFronts.{kind_number};
