@@ -27,4 +27,4 @@ pub returns-in-TooLong : goal.returns-in-TooLong
 returns-in-TooLong c =
     λ t w. let n = long_len _ _ (sym c.in-TooLong.is ∙ c.value_len.ensures t _ w) in
     zero_refused t w.shaped c.args.out.now
-    (omega (arith, n, c.before.before.before.before.before.well-formed.1.0.0))
+    (omega (arith, n))
