@@ -46,7 +46,7 @@ write_parts-requires c =
 
 pub returns : goal.returns
 returns c =
-    λ j l e x. let f = subst T (sym ((search)) ∙ c.all_flat.ensures l x) tt in
+    λ j l e x. let f = subst T (sym c.if-not-all_flat.false ∙ c.all_flat.ensures l x) tt in
     let g = fits_goes j x f e c.fits.ensures
     (c.if-not-fits.false) in
     builds_as _ (vec_some _ c.flat_count-m.result j (flattened l) (search) (c.flat_count-m.ensures l x) g.0 g.1.goes)
