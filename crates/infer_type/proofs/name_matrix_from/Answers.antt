@@ -11,8 +11,8 @@ pub returns-in-Kind : goal.returns-in-Kind
 returns-in-Kind c =
     λ t e w. let x = found_kind (float_kind (inner t)) (sym c.in-Kind.is
     ∙ c.float_inner.ensures t e w) in
-    names_as (Tm _ _) c.name_by.result (float_named _ _ _ t x)
-    (c.name_by.ensures (Tm _ _) x.kind t (mat_shape _ _ t _) x.no (c.matrix_shape.ensures t e w))
+    names_as (Tm c.args.c c.args.r) c.name_by.result (float_named _ _ _ t x)
+    (c.name_by.ensures (Tm c.args.c c.args.r) x.kind t (mat_shape c.args.c c.args.r t c.args.n) x.no (c.matrix_shape.ensures t e w))
 
 pub returns-in-Nothing : goal.returns-in-Nothing
 returns-in-Nothing c =
