@@ -1,8 +1,8 @@
 -- Made by reference/to-antt from reference/answers.txt: calls of the list, computed from the definitions. `wrong` would list those that do not agree.
 use mathlib.Core.Path.{◌≡◌, refl}
 use mathlib.Core.List.{List, [], ◌∷◌}
-use Rattle.meaning.specs.Answers.{ok, no, miscount}
-use Rattle.answers.specs.Same.{Call, builds, types, converts, ranks, same, nan_bits, rows, nan_fits, hex, record?, wrong}
+use Rattle.meaning.specs.Answers.{no, miscount}
+use Rattle.answers.specs.Same.{Call, builds, types, same, rows, nan_fits, hex, record?, wrong}
 use Rattle.answers.proofs.Opened.{opened}
 
 calls : List Call

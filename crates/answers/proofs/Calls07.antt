@@ -2,7 +2,7 @@
 use mathlib.Core.Path.{◌≡◌, refl}
 use mathlib.Core.List.{List, [], ◌∷◌}
 use Rattle.meaning.specs.Answers.{ok, no, miscount}
-use Rattle.answers.specs.Same.{Call, builds, types, converts, ranks, same, nan_bits, rows, nan_fits, hex, record?, wrong}
+use Rattle.answers.specs.Same.{Call, builds, types, converts, ranks, same, nan_bits, hex, record?, wrong}
 use Rattle.answers.proofs.Opened.{opened}
 
 calls : List Call

@@ -1,6 +1,6 @@
 -- One call of the reference's list against the definitions: the same answer, or for each departure that document 01 names, what it says instead.
 use Rattle.std.proofs.Math.Option.{Option, none, some}
-use Rattle.std.specs.Prelude.{List, [], ◌∷◌, ◌++◌, map, Bool, true, false, ◌&&◌, cond, ℕ, zero, suc, ◌/◌, ◌%◌, eqb}
+use Rattle.std.specs.Prelude.{List, [], ◌∷◌, map, Bool, true, false, ◌&&◌, cond, ℕ, zero, suc, ◌/◌, ◌%◌, eqb}
 use Rattle.meaning.specs.Kinds.{Kind, f32, f16, same_kind}
 use Rattle.meaning.specs.Floats.{Num, nan, inf, fin}
 use Rattle.meaning.specs.Scalars.{number, conv_bits}

@@ -1,7 +1,7 @@
 -- Values that stand in a row, each of a type that is known.
 use mathlib.Core.Path.{◌≡◌, refl, sym, ap, ap₂, ◌∙◌}
 use mathlib.Core.List.{List, ◌++◌, append_assoc}
-use mathlib.Core.Bool.{Bool, true, false, not}
+use mathlib.Core.Bool.{Bool, true, false}
 use Prim.Native.Nat.{ℕ, zero, suc, ◌+◌, ◌-◌, ◌≤◌, ◌<◌}
 use native.Mathlib.Omega.{arith}
 use native.Mathlib.Nat.{add-zero}
@@ -12,7 +12,6 @@ use Rattle.meaning.specs.Records.{val_bytes, vals_bytes, shaped_val, shaped_vals
 use Rattle.laws.proofs.Back.{and_l, and_r}
 use Rattle.laws.proofs.Same.{both}
 use Rattle.laws.proofs.Length.{val_len_lem}
-use borrow.Author.Tests.{not-true, not-false}
 use Rattle.ty.specs.TypeFronts.{Same}
 use Rattle.record.specs.Bytes.{Decides}
 use Rattle.record.proofs.Starts.{decided, refuted}

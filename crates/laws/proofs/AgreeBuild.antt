@@ -1,15 +1,15 @@
 -- The third demand at the level of trees, target by target.
 use mathlib.Core.Path.{◌≡◌, refl, sym, ap, ap₂, ◌∙◌, subst}
 use mathlib.Core.Option.{Option, none, some}
-use mathlib.Core.List.{List, [], ◌∷◌, ◌++◌, map}
-use mathlib.Core.Bool.{Bool, true, false, not, ◌&&◌, ◌||◌}
-use Prim.Native.Nat.{ℕ, zero, suc, ◌*◌, ◌+◌}
+use mathlib.Core.List.{List, [], ◌∷◌, map}
+use mathlib.Core.Bool.{Bool, true, false, not, ◌&&◌}
+use Prim.Native.Nat.{ℕ, zero, suc, ◌*◌}
 use native.Mathlib.Omega.{arith}
 use lib.Dec.{T, leb, eqb, eqb→eq, eqb_refl}
 use lib.ListN.{length, replicate, length-replicate}
 use Rattle.meaning.specs.Kinds.{Kind, bool, aint, afloat, i32, u32, f32, f16, is_abstract, payloads}
 use Rattle.meaning.specs.Scalars.{Stage, fits_ctor}
-use Rattle.meaning.specs.Trees.{Ty, Ts, Tv, Tm, Ta, Tu, Tys, [·], ◌▸◌, Val, Vs, Vv, Vm, Va, Vu, Vals, ⟨⟩, ◌▹◌, Target, Of}
+use Rattle.meaning.specs.Trees.{Ty, Ts, Tv, Tm, Ta, Tu, Tys, [·], ◌▸◌, Val, Vs, Vv, Vm, Va, Vu, Vals, Target, Of}
 use Rattle.meaning.specs.Trees.{tys_of, type_of, types_of, count_vals, leaf, tys_list, vals_of, zero_of, zeros_of}
 use Rattle.meaning.specs.Answers.{Result, ok, no, miscount, ◌>>=◌, ◌>>◌, need, need_count, or_no, all_some, map_some}
 use Rattle.meaning.specs.Records.{every, good_lit, shaped_val, shaped_vals, shaped_ty, shaped_tys, all_same, u16}

@@ -2,13 +2,13 @@
 use mathlib.Core.Path.{◌≡◌, refl, sym, ap, ap₂, ◌∙◌, subst}
 use mathlib.Core.Option.{Option, none, some}
 use mathlib.Core.List.{List, [], ◌∷◌, ◌++◌, map}
-use mathlib.Core.Bool.{Bool, true, false, ◌&&◌, ◌||◌, and_assoc, cond}
+use mathlib.Core.Bool.{Bool, true, false, ◌&&◌, and_assoc, cond}
 use Prim.Native.Nat.{ℕ, suc, ◌*◌}
-use lib.Dec.{T, leb, eqb, eqb→eq}
+use lib.Dec.{T, leb, eqb}
 use lib.ListN.{length}
 use Rattle.meaning.specs.Kinds.{Kind, bool, aint, afloat, i32, u32, f32, f16, kind_rank, same_kind, kind_no, from_aint, from_afloat, from_same}
 use Rattle.meaning.specs.Scalars.{Stage, fits_conv, conv, some?}
-use Rattle.meaning.specs.Trees.{Ty, Ts, Tv, Tm, Ta, Tu, [·], ◌▸◌, Val, Vs, Vv, Vm, Va, Vu, Vals, ⟨⟩, ◌▹◌, same_ty, type_of, types_of}
+use Rattle.meaning.specs.Trees.{Ty, Ts, Tv, Tm, Ta, Tu, Val, Vs, Vv, Vm, Va, Vu, Vals, ⟨⟩, ◌▹◌, same_ty, type_of, types_of}
 use Rattle.meaning.specs.Trees.{first, count_vals, leaf, set_leaf, tys_list}
 use Rattle.meaning.specs.Answers.{all_some, map_some}
 use Rattle.meaning.specs.Records.{every, good_lit, shaped_val, shaped_vals, shaped_ty, all_same, u16}

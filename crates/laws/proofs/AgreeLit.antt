@@ -1,17 +1,16 @@
 -- Literals: a scalar constructor and a conversion give a payload of the kind exactly where the literal fits.
 use mathlib.Core.Path.{◌≡◌, refl, sym, ap, ◌∙◌, subst}
 use mathlib.Core.Option.{Option, none, some}
-use mathlib.Core.List.{[], ◌∷◌, ◌++◌}
 use mathlib.Core.Bool.{Bool, true, false, not, ◌&&◌, ◌||◌, cond}
-use Prim.Native.Nat.{ℕ, ◌+◌, ◌*◌, ◌-◌, ◌^◌, ◌%◌, ◌/◌, ◌<◌, ◌≤◌, min}
+use Prim.Native.Nat.{ℕ, ◌+◌, ◌*◌, ◌-◌, ◌^◌, ◌/◌, ◌<◌, min}
 use native.Mathlib.Nat.{mod-lt}
 use native.Mathlib.Omega.{arith}
-use lib.Dec.{T, ltb, eqb, eqb→eq, ltb→lt, lt→ltb, lit<}
+use lib.Dec.{T, eqb, eqb→eq, ltb→lt, lt→ltb, lit<}
 use Rattle.meaning.specs.Kinds.{Kind, bool, aint, afloat, i32, u32, f32, f16, kind_no, kind_of, same_kind, payloads, is_abstract, kind_rank}
 use Rattle.meaning.specs.Floats.{binary16, binary32, binary64, Num, nan, inf, fin, bits, packed, ones, hid, top}
 use Rattle.meaning.specs.Scalars.{Stage, ctor_test, ctor_bits, fits_ctor, fits_conv, conv, conv_fits, conv_bits, some?, toward, wrap, hi_of}
 use Rattle.meaning.specs.Scalars.{lo_of, keeps_bits, number, nonzero}
-use Rattle.meaning.specs.Answers.{Result, ok, ◌>>=◌, ◌>>◌, need}
+use Rattle.meaning.specs.Answers.{Result, ok, ◌>>◌, need}
 use Rattle.meaning.specs.Records.{good_lit}
 use Rattle.meaning.specs.Build.{ctor_lit}
 use Rattle.laws.specs.Demand.{refused}

@@ -1,12 +1,12 @@
 -- The third demand at the level of trees: matrices.
 use mathlib.Core.Path.{◌≡◌, refl, sym, ap, ap₂, ◌∙◌, subst}
 use mathlib.Core.Option.{Option, none, some}
-use mathlib.Core.List.{List, [], ◌∷◌, ◌++◌, map}
-use mathlib.Core.Bool.{Bool, true, false, not, ◌&&◌, ◌||◌, cond}
+use mathlib.Core.List.{List, [], ◌∷◌, map}
+use mathlib.Core.Bool.{Bool, true, false, not, ◌&&◌, cond}
 use Prim.Native.Nat.{ℕ, suc, ◌*◌, ◌+◌}
 use native.Mathlib.Omega.{arith}
 use native.Mathlib.Nat.{suc-mul, zero-mul, add_comm, mul-one}
-use lib.Dec.{T, le→leb, eqb, eqb→eq, eqb_refl}
+use lib.Dec.{T, eqb, eqb→eq, eqb_refl}
 use lib.ListN.{length, replicate, length-append}
 use Rattle.meaning.specs.Kinds.{Kind, kind_rank, is_abstract}
 use Rattle.meaning.specs.Scalars.{Stage, some?}

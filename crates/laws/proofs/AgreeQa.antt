@@ -1,15 +1,15 @@
 -- The third demand at the level of trees: the untemplated array.
-use mathlib.Core.Path.{◌≡◌, refl, sym, ◌∙◌, subst}
+use mathlib.Core.Path.{◌≡◌, refl, sym, subst}
 use mathlib.Core.Option.{Option, none, some}
-use mathlib.Core.List.{List, [], ◌∷◌, ◌++◌, map}
-use mathlib.Core.Bool.{Bool, true, false, ◌&&◌, ◌||◌}
-use Prim.Native.Nat.{ℕ, suc, ◌*◌, ◌+◌}
+use mathlib.Core.List.{List, [], ◌∷◌, map}
+use mathlib.Core.Bool.{Bool, true, false, ◌&&◌}
+use Prim.Native.Nat.{ℕ, suc}
 use native.Mathlib.Omega.{arith}
-use lib.Dec.{T, leb, le→leb, eqb→eq}
+use lib.Dec.{T, leb, le→leb}
 use lib.ListN.{length, replicate}
 use Rattle.meaning.specs.Scalars.{Stage}
 use Rattle.meaning.specs.Trees.{Ty, Ta, Val, Va, Qa, type_of, vals_of}
-use Rattle.meaning.specs.Answers.{ok, ◌>>=◌, ◌>>◌, or_no, all_some}
+use Rattle.meaning.specs.Answers.{ok, ◌>>=◌, or_no, all_some}
 use Rattle.meaning.specs.Convert.{conv_val, common}
 use Rattle.meaning.specs.Build.{build, qa_of}
 use Rattle.meaning.specs.Typing.{typed, type_qa}

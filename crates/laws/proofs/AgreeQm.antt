@@ -1,11 +1,11 @@
 -- The third demand at the level of trees: the untemplated matrix.
-use mathlib.Core.Path.{◌≡◌, refl, sym, ◌∙◌, subst}
+use mathlib.Core.Path.{◌≡◌, refl, sym, subst}
 use mathlib.Core.Option.{Option, none, some}
-use mathlib.Core.List.{List, [], ◌∷◌, ◌++◌, map}
-use mathlib.Core.Bool.{Bool, true, false, ◌&&◌, ◌||◌, cond}
-use Prim.Native.Nat.{ℕ, ◌*◌, ◌+◌}
+use mathlib.Core.List.{List, [], ◌∷◌, map}
+use mathlib.Core.Bool.{Bool, true, false, cond}
+use Prim.Native.Nat.{ℕ}
 use native.Mathlib.Omega.{arith}
-use lib.Dec.{T, le→leb, eqb→eq}
+use lib.Dec.{T}
 use lib.ListN.{length, replicate}
 use Rattle.meaning.specs.Kinds.{Kind, kind_rank, same_kind, is_float, aint, afloat, from_aint}
 use Rattle.meaning.specs.Scalars.{Stage, some?, fits_conv}

@@ -2,10 +2,10 @@
 use mathlib.Core.Path.{◌≡◌, refl, sym, ap, ap₂, ◌∙◌, subst}
 use mathlib.Core.Option.{Option, none, some}
 use mathlib.Core.List.{List, [], ◌∷◌, ◌++◌, map, map-append}
-use mathlib.Core.Bool.{Bool, true, false, ◌&&◌, ◌||◌, cond}
-use Prim.Native.Nat.{ℕ, ◌*◌, ◌+◌, ◌≤◌}
+use mathlib.Core.Bool.{Bool, true, false, ◌&&◌, cond}
+use Prim.Native.Nat.{ℕ, ◌+◌}
 use native.Mathlib.Omega.{arith}
-use lib.Dec.{T, leb, le→leb, leb→le, eqb, eqb→eq}
+use lib.Dec.{T, leb, leb→le, eqb, eqb→eq}
 use lib.ListN.{length, replicate, length-replicate, length-append}
 use borrow.Author.Tests.{ne_eqb}
 use Rattle.meaning.specs.Kinds.{Kind, aint, same_kind}

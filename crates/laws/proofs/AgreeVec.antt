@@ -2,14 +2,14 @@
 use mathlib.Core.Path.{◌≡◌, refl, sym, ap, ap₂, ◌∙◌, subst}
 use mathlib.Core.Option.{Option, none, some}
 use mathlib.Core.List.{List, [], ◌∷◌, ◌++◌, map}
-use mathlib.Core.Bool.{Bool, true, false, not, ◌&&◌, ◌||◌, and_assoc, cond}
-use Prim.Native.Nat.{ℕ, zero, suc, ◌*◌, ◌+◌}
+use mathlib.Core.Bool.{Bool, true, false, not, ◌&&◌, and_assoc, cond}
+use Prim.Native.Nat.{ℕ, zero, suc, ◌+◌}
 use native.Mathlib.Omega.{arith}
 use lib.Dec.{T, le→leb, leb→le, leb, eqb, eqb→eq}
 use lib.ListN.{length, replicate, length-replicate, length-append}
 use Rattle.meaning.specs.Kinds.{Kind, same_kind, is_abstract, kind_rank}
 use Rattle.meaning.specs.Scalars.{Stage, fits_conv, fits_ctor, conv, some?}
-use Rattle.meaning.specs.Trees.{Ty, Ts, Tv, Tm, Ta, Tu, [·], ◌▸◌, Val, Vs, Vv, Vm, Va, Vu, ⟨⟩, ◌▹◌, Target, Of}
+use Rattle.meaning.specs.Trees.{Ty, Ts, Tv, Tm, Ta, Tu, Val, Vs, Vv, Vm, Va, Vu, Target, Of}
 use Rattle.meaning.specs.Trees.{same_ty, type_of, count_vals, leaf, set_leaf, vals_of}
 use Rattle.meaning.specs.Answers.{Result, ok, no, miscount, ◌>>=◌, ◌>>◌, need, need_count, or_no, all, all_some}
 use Rattle.meaning.specs.Records.{every, good_lit, shaped_val, shaped_vals, shaped_ty, side}

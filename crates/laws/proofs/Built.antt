@@ -1,8 +1,7 @@
 -- Whatever building accepts is one whole value: well formed, of a well-formed type, and of the type asked for where the
 -- target is a type. So its record is as long as its type says. A zero value's answer follows from the type alone.
 use mathlib.Core.Path.{◌≡◌, refl, sym, ap, ◌∙◌, subst}
-use mathlib.Core.Option.{some}
-use mathlib.Core.List.{List, [], ◌∷◌, ◌++◌, map}
+use mathlib.Core.List.{List, [], ◌∷◌, map}
 use mathlib.Core.Bool.{Bool, true, false, not, ◌&&◌}
 use Prim.Native.Nat.{ℕ}
 use native.Mathlib.Omega.{arith}

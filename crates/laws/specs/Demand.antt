@@ -1,5 +1,5 @@
 -- The third demand, as one statement over target, stage and the whole argument list.
-use Rattle.std.specs.Prelude.{◌≡◌, List, [], ◌∷◌, ◌++◌, map, Bool, true, false, not, ◌&&◌, ◌||◌, cond, ℕ, T, leb, eqb, length, replicate}
+use Rattle.std.specs.Prelude.{◌≡◌, List, [], ◌∷◌, ◌++◌, map, Bool, true, false, not, ◌&&◌, cond, ℕ, T, leb, eqb, length, replicate}
 use Rattle.std.proofs.Math.Option.{Option, none, some}
 use Rattle.meaning.specs.Kinds.{Kind, is_abstract}
 use Rattle.meaning.specs.Scalars.{Stage, fits_conv, fits_ctor}

@@ -2,7 +2,7 @@
 use mathlib.Core.Path.{◌≡◌, refl, sym, ap, ◌∙◌, subst}
 use mathlib.Core.List.{List, [], ◌∷◌}
 use mathlib.Core.Bool.{true, false, ◌&&◌}
-use Prim.Native.Nat.{ℕ, ◌+◌, ◌-◌, ◌*◌, ◌≤◌, ◌<◌}
+use Prim.Native.Nat.{ℕ, ◌+◌, ◌*◌, ◌≤◌, ◌<◌}
 use native.Mathlib.Omega.{arith}
 use borrow.Author.Tests.{eq-eqb}
 use lib.Dec.{T, eqb, eqb→eq}
@@ -11,7 +11,7 @@ use Rattle.meaning.specs.Kinds.{Kind, is_abstract}
 use Rattle.meaning.specs.Scalars.{Stage}
 use Rattle.meaning.specs.Trees.{Tm, Val, Vs, Vv, Vm, Va, Vu, type_of}
 use Rattle.meaning.specs.Records.{‘m’, val_bytes, every, good_lit, shaped_val}
-use Rattle.meaning.specs.Answers.{ok, no, ◌>>=◌, ◌>>◌, all}
+use Rattle.meaning.specs.Answers.{ok, no, ◌>>=◌, all}
 use Rattle.meaning.specs.Build.{ctor_lit, same_size, mat_parts, mat_one, qm_parts, qm_one}
 use Rattle.laws.proofs.Back.{and_l, and_r}
 use Rattle.derive.specs.Derives.{Marked}

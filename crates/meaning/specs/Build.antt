@@ -4,7 +4,7 @@ use Rattle.std.proofs.Math.Option.{Option, none, some}
 use Rattle.std.specs.Prelude.{List, [], ◌∷◌, ◌++◌, map, Bool, not, ◌&&◌, cond, ℕ, ◌*◌, eqb, length, replicate}
 use Rattle.meaning.specs.Kinds.{Kind, aint, is_abstract, same_kind}
 use Rattle.meaning.specs.Scalars.{Stage, conv, ctor_test, ctor_bits}
-use Rattle.meaning.specs.Trees.{Ty, Ts, Tv, Tm, Ta, Tu, Tys, Val, Vs, Vv, Vm, Va, Vu, ⟨⟩, ◌▹◌, Target, Of, Tr, Qa, Qv, Qm}
+use Rattle.meaning.specs.Trees.{Ty, Ts, Tv, Tm, Ta, Tu, Tys, Val, Vs, Vv, Vm, Va, Vu, Target, Of, Tr, Qa, Qv, Qm}
 use Rattle.meaning.specs.Trees.{type_of, set_leaf, inner, zero_of, vals_of, tys_list}
 use Rattle.meaning.specs.Answers.{Result, ok, no, ◌>>=◌, ◌>>◌, or_no, need, need_count, all, all_some, map_some}
 use Rattle.meaning.specs.Convert.{converts, conv_val, conv_lits, common, float_kind}

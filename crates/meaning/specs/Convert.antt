@@ -1,6 +1,6 @@
 -- Conversion without a constructor, of types and of values, and the common type (document 01, conversion; the source's conv.rs).
 use Rattle.std.proofs.Math.Option.{Option, none, some}
-use Rattle.std.specs.Prelude.{List, [], ◌∷◌, ◌++◌, Bool, ◌&&◌, cond, ℕ}
+use Rattle.std.specs.Prelude.{List, [], ◌∷◌, Bool, cond, ℕ}
 use Rattle.meaning.specs.Kinds.{Kind, kind_rank, same_kind, is_float, aint, afloat}
 use Rattle.meaning.specs.Scalars.{conv, some?}
 use Rattle.meaning.specs.Trees.{Ty, Ts, Tv, Tm, Ta, Tu, Val, Vs, Vv, Vm, Va, Vu, Vals, ⟨⟩, ◌▹◌}

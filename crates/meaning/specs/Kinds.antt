@@ -1,7 +1,7 @@
 -- The seven scalar kinds: their numbers, their payloads, and the rank of a conversion between two of them (document 01,
 -- type records and conversion).
 use Rattle.std.proofs.Math.Option.{Option, none, some}
-use Rattle.std.specs.Prelude.{Bool, ◌||◌, cond, ℕ, ◌^◌, ◌*◌, eqb, [], ◌∷◌}
+use Rattle.std.specs.Prelude.{Bool, ◌||◌, cond, ℕ, ◌^◌, eqb, [], ◌∷◌}
 use Rattle.std.proofs.Math.ListN.{get_elem?}
 
 pub data Kind : Type 0 where

@@ -1,7 +1,7 @@
 -- Reading the records back: a parser takes bytes, and gives what it read and the bytes left, or nothing.
 -- `crates/laws/proofs/Exact.antt` shows that what is read is exactly what is well formed and written so.
 use Rattle.std.proofs.Math.Option.{Option, none, some}
-use Rattle.std.specs.Prelude.{List, [], ◌∷◌, ◌++◌, map, Bool, ◌&&◌, cond, ℕ, zero, suc, ◌+◌, ◌*◌, eqb, length}
+use Rattle.std.specs.Prelude.{List, [], ◌∷◌, ◌++◌, map, Bool, cond, ℕ, zero, suc, ◌+◌, ◌*◌, eqb, length}
 use Rattle.meaning.specs.Kinds.{Kind, kind_of, pay_width, same_kind}
 use Rattle.meaning.specs.Trees.{Ty, Ts, Tv, Tm, Ta, Tu, Val, Vs, Vv, Vm, Va, Vu, Target, Of, Tr, Qa, Qv, Qm, tys_of, vals_of}
 use Rattle.meaning.specs.Records.{‘T’, ‘V’, ‘Q’, ‘s’, ‘v’, ‘m’, ‘a’, ‘r’, ‘u’, every, good_target, good_val, good_args, good_tys}

@@ -1,6 +1,6 @@
 -- The byte records: how types, values and targets are written, and which of them are well formed (document 01, the two record sections).
 -- "Each begins with a two-byte ASCII mark. Numbers are little-endian; u16 is 2 bytes."
-use Rattle.std.specs.Prelude.{List, [], ◌∷◌, ◌++◌, map, Bool, true, ◌&&◌, ℕ, zero, suc, ◌+◌, ◌*◌, ◌/◌, ◌%◌, eqb, leb, ltb, length, take, drop}
+use Rattle.std.specs.Prelude.{List, [], ◌∷◌, ◌++◌, map, Bool, true, ◌&&◌, ℕ, zero, suc, ◌*◌, ◌/◌, ◌%◌, eqb, leb, ltb, length, take, drop}
 use Rattle.meaning.specs.Kinds.{Kind, kind_no, pay_width, payloads, is_float}
 use Rattle.meaning.specs.Trees.{Ty, Ts, Tv, Tm, Ta, Tu, Tys, [·], ◌▸◌, Val, Vs, Vv, Vm, Va, Vu, Vals, ⟨⟩, ◌▹◌, Target, Of, Tr, Qa}
 use Rattle.meaning.specs.Trees.{Qv, Qm}

@@ -1,6 +1,6 @@
 -- One literal: a kind and a payload. The number that it is, its conversion without a constructor, and the scalar constructors.
 use Rattle.std.proofs.Math.Option.{Option, none, some}
-use Rattle.std.specs.Prelude.{Bool, true, false, not, ◌&&◌, ◌||◌, cond, ℕ, ◌+◌, ◌-◌, ◌*◌, ◌/◌, ◌%◌, ◌^◌, min, leb, ltb, eqb}
+use Rattle.std.specs.Prelude.{Bool, true, false, not, ◌&&◌, ◌||◌, cond, ℕ, ◌-◌, ◌*◌, ◌/◌, ◌%◌, ◌^◌, min, leb, ltb, eqb}
 use Rattle.meaning.specs.Kinds.{Kind, bool, aint, afloat, i32, u32, f32, f16, payloads, same_kind, kind_rank}
 use Rattle.meaning.specs.Floats.{binary16, binary32, binary64, Num, nan, inf, fin, integer, value, bits, finite, outside}
 

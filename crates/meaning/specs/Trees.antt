@@ -1,7 +1,7 @@
 -- Types, values and targets as trees: the type of a value, depth, the length of a value's record, zero values. A vector
 -- or a matrix has one kind and its payloads, a matrix column by column.
 use Rattle.std.proofs.Math.Option.{Option, none, some}
-use Rattle.std.specs.Prelude.{List, [], ◌∷◌, ◌++◌, Bool, true, false, ◌&&◌, ℕ, suc, ◌+◌, ◌*◌, max, eqb, length, replicate}
+use Rattle.std.specs.Prelude.{List, [], ◌∷◌, Bool, true, false, ◌&&◌, ℕ, suc, ◌+◌, ◌*◌, max, eqb, length, replicate}
 use Rattle.meaning.specs.Kinds.{Kind, bool, pay_width, same_kind}
 
 -- `Ts` kind; `Tv` n and a kind; `Tm` c columns, r rows and a kind; `Ta` count and element type; `Tu` identity and member types

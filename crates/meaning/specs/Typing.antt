@@ -1,7 +1,7 @@
 -- Typing: the type of what a constructor makes, from the types of its arguments, or the refusal (the source's
 -- `type_ctor` and `typecheck_struct_ctor`, in their own order).
 use Rattle.std.proofs.Math.Option.{Option, none, some}
-use Rattle.std.specs.Prelude.{List, [], ◌∷◌, ◌++◌, map, Bool, true, not, ◌&&◌, ℕ, ◌+◌, ◌*◌, eqb, length}
+use Rattle.std.specs.Prelude.{List, [], ◌∷◌, map, Bool, true, not, ◌&&◌, ℕ, ◌+◌, eqb, length}
 use Rattle.meaning.specs.Kinds.{Kind, aint, is_abstract}
 use Rattle.meaning.specs.Trees.{Ty, Ts, Tv, Tm, Ta, Tu, Tys, Target, Of, Tr, Qa, Qv, Qm}
 use Rattle.meaning.specs.Trees.{inner, tys_list}

@@ -1,12 +1,12 @@
 -- From the value that was read to the answer.
 use mathlib.Core.Path.{◌≡◌}
 use mathlib.Core.List.{List}
-use mathlib.Core.Bool.{Bool, true, false, not}
+use mathlib.Core.Bool.{Bool, true, false}
 use Prim.Native.Nat.{ℕ, ◌≤◌, ◌<◌}
 use native.Mathlib.Omega.{arith}
 use lib.ListN.{length, take}
 use lib.Seq.{length-take-le}
-use borrow.Author.Tests.{le-leb, lt-leb, not-true, not-false}
+use borrow.Author.Tests.{le-leb, lt-leb}
 use Rattle.meaning.specs.Trees.{Ty, Val, type_of}
 use Rattle.meaning.specs.Answers.{ok, no}
 use Rattle.meaning.specs.Layout.{has_layout, size_of, mem_bytes, write_answer}

@@ -1,17 +1,9 @@
 -- What is left to look at decides.
-use mathlib.Core.List.{List}
-use mathlib.Core.Path.{◌≡◌, refl}
-use Prim.Native.Nat.{◌-◌}
+use mathlib.Core.Path.{refl}
 use native.Mathlib.Omega.{arith}
-use lib.ListN.{length}
-use borrow.Author.Tests.{not-true, not-false}
 use Rattle.meaning.specs.Convert.{converts}
 use Rattle.meaning.specs.Records.{every}
-use Rattle.meaning.specs.Trees.{Ty}
-use Rattle.laws.proofs.Left.{Left}
-use Rattle.shape.specs.TypeRows.{TypeRow}
 use Rattle.shape.proofs.TypeRows.{types_standing, types_less, types_ends, types_next, types_on, types_end}
-use Rattle.ty.specs.Stands.{Stands}
 use Rattle.arg_types.proofs.Passing.{every_no, every_on}
 use Rattle.arg_types.proofs.types_convert.Goals as goal
 
@@ -30,7 +22,7 @@ pub converts_at-requires-clause-ends : goal.converts_at-requires-clause-ends
 unfolding every
 converts_at-requires-clause-ends c =
     types_ends (c.loop-i.invariant c.requires.some_type_row.types c.requires.ends.type c.requires.some_type_row.row c.requires.ends.stands) c.loop-i-test.true
-          c.end_of_type-e.ensures
+    c.end_of_type-e.ensures
 
 pub converts_at-requires-clause-ends_2 : goal.converts_at-requires-clause-ends_2
 unfolding every

@@ -1,18 +1,14 @@
 -- What is left to look at decides.
 use mathlib.Core.List.{List}
-use mathlib.Core.Path.{◌≡◌, refl}
+use mathlib.Core.Path.{◌≡◌}
 use Prim.Native.Nat.{◌-◌}
-use native.Mathlib.Omega.{arith}
 use lib.ListN.{length}
-use borrow.Author.Tests.{not-true, not-false}
 use Rattle.meaning.specs.Convert.{converts}
 use Rattle.meaning.specs.Records.{every}
 use Rattle.meaning.specs.Trees.{Ty}
 use Rattle.laws.proofs.Left.{Left}
 use Rattle.shape.specs.TypeRows.{TypeRow}
-use Rattle.shape.proofs.TypeRows.{types_standing, types_less, types_ends, types_next, types_on, types_end}
 use Rattle.ty.specs.Stands.{Stands}
-use Rattle.arg_types.proofs.Passing.{every_no, every_on}
 use Rattle.arg_types.proofs.types_convert.Given as goal
 
 abbrev pub invariant-loop-i : goal.invariant-loop-i

@@ -1,6 +1,5 @@
 -- As many as were read stand before i.
 use mathlib.Core.Path.{◌≡◌, ap, subst}
-use Prim.Native.Nat.{◌-◌}
 use native.Mathlib.Omega.{arith}
 use lib.ListN.{length}
 use Rattle.meaning.specs.Trees.{Ty}
@@ -8,7 +7,7 @@ use Rattle.meaning.specs.Records.{ty_bytes}
 use Rattle.ty.specs.Stands.{Ends}
 use Rattle.ty.specs.TypeFronts.{Told}
 use Rattle.ty.proofs.Places.{same_type}
-use Rattle.args.specs.Counts.{Left, TypeArg}
+use Rattle.args.specs.Counts.{TypeArg}
 use Rattle.args.proofs.Rest.{left_all, left_none, left_full, left_bad, type_head, type_left}
 use Rattle.args.proofs.count_types.Goals as goal
 

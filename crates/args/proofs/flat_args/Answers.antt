@@ -1,8 +1,7 @@
 -- As many as were read stand before i.
 use mathlib.Core.Path.{subst}
-use Prim.Native.Nat.{◌-◌}
 use native.Mathlib.Omega.{arith}
-use Rattle.args.specs.Counts.{Flat, FlatLeft}
+use Rattle.args.specs.Counts.{Flat}
 use Rattle.args.proofs.Rest.{flat_all, flat_left}
 use Rattle.args.proofs.flat_args.Goals as goal
 

@@ -1,9 +1,6 @@
 -- As many as were read stand before i.
-use mathlib.Core.Path.{subst}
 use Prim.Native.Nat.{◌-◌}
-use native.Mathlib.Omega.{arith}
-use Rattle.args.specs.Counts.{Flat, FlatLeft}
-use Rattle.args.proofs.Rest.{flat_all, flat_left}
+use Rattle.args.specs.Counts.{FlatLeft}
 use Rattle.args.proofs.flat_args.Given as goal
 
 abbrev pub invariant-loop-i : goal.invariant-loop-i

@@ -1,7 +1,6 @@
 -- The arguments, then the count, then the writing.
 use mathlib.Core.Path.{sym, ◌∙◌}
 use native.Mathlib.Omega.{arith}
-use borrow.Author.Tests.{not-true, not-false}
 use Rattle.error.proofs.BufferAtExit.{builds_as, builds_no, builds_miscount}
 use Rattle.array.proofs.Arrays.{array_room, array_count, array_elem, become, array_nine, array_miscount, array_ok}
 use Rattle.array.proofs.array_of.Goals as goal
@@ -9,9 +8,9 @@ use Rattle.array.proofs.array_of.Goals as goal
 pub all_convert-requires-clause-asked : goal.all_convert-requires-clause-asked
 all_convert-requires-clause-asked c =
     record {
-        rest = record { values = _; row = c.requires.given.row };
-        to = record { type = _; end = _; stands = array_elem c.requires.whole };
-      }
+      rest = record { values = _; row = c.requires.given.row };
+      to = record { type = _; end = _; stands = array_elem c.requires.whole };
+    }
 
 pub returns-then-not-all_convert : goal.returns-then-not-all_convert
 returns-then-not-all_convert c =

@@ -1,6 +1,5 @@
 -- The type decides, then the literals.
 use native.Mathlib.Omega.{arith}
-use borrow.Author.Tests.{not-true, not-false}
 use Rattle.array.proofs.Pairs.{pair_arg, pair_type, pair_stands, pair_part, type_no, fits_asked, fits_no, fits_yes}
 use Rattle.array.proofs.member_fits.Goals as goal
 

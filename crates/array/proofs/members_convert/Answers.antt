@@ -1,15 +1,9 @@
 -- What is left to look at decides.
 use mathlib.Core.Path.{refl, subst}
-use mathlib.Core.List.{List}
-use Prim.Native.Nat.{◌-◌}
 use native.Mathlib.Omega.{arith}
-use lib.ListN.{length}
-use Rattle.meaning.specs.Scalars.{some?}
-use Rattle.meaning.specs.Trees.{Tys, Val, tys_list}
-use Rattle.meaning.specs.Build.{memberwise}
-use Rattle.array.specs.Members.{Pairs, MemberIs}
+use Rattle.array.specs.Members.{MemberIs}
 use Rattle.array.specs.declared.Member.{Member}
-use Rattle.array.proofs.MembersLeft.{FitLeft, fit_pair, fit_no, fit_less, fit_on, fit_end}
+use Rattle.array.proofs.MembersLeft.{fit_pair, fit_no, fit_less, fit_on, fit_end}
 use Rattle.array.proofs.members_convert.Goals as goal
 
 pub loop-i-init : goal.loop-i-init

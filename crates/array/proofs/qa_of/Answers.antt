@@ -1,6 +1,5 @@
 -- The common type, then the literals, then the writing.
 use mathlib.Core.Path.{sym, ◌∙◌}
-use borrow.Author.Tests.{not-true, not-false}
 use Rattle.error.proofs.BufferAtExit.{builds_as, builds_no}
 use Rattle.common_type.proofs.CommonAnswer.{common_of, common_none}
 use Rattle.convert_all.proofs.ConvertedLists.{common_to}

@@ -1,6 +1,5 @@
 -- The arguments, then the writing.
 use mathlib.Core.Path.{sym, ◌∙◌}
-use borrow.Author.Tests.{not-true, not-false}
 use Rattle.error.proofs.BufferAtExit.{builds_as, builds_no}
 use Rattle.array.proofs.Arrays.{become, runtime_nine, runtime_ok}
 use Rattle.array.proofs.runtime_of.Goals as goal

@@ -1,6 +1,5 @@
 -- The count, then the members, then the writing.
 use mathlib.Core.Path.{sym, ◌∙◌}
-use borrow.Author.Tests.{not-true, not-false}
 use Rattle.error.proofs.BufferAtExit.{builds_as, builds_no, builds_miscount}
 use Rattle.array.proofs.Structs.{struct_pairs, struct_miscount, struct_no, struct_yes}
 use Rattle.array.proofs.struct_of.Goals as goal

@@ -1,6 +1,5 @@
 -- The length that the element type and the count say decides; then the mark, the count and the elements.
 use native.Mathlib.Omega.{arith}
-use borrow.Author.Tests.{not-true, not-false}
 use Rattle.laws.proofs.Length.{le_len}
 use Rattle.array.proofs.Arrays.{array_no, array_fits, array_yes}
 use Rattle.array.proofs.write_array.Goals as goal

@@ -1,6 +1,5 @@
 -- The length that the type says decides; then the mark, what the type says of the struct, and the members.
 use native.Mathlib.Omega.{arith}
-use borrow.Author.Tests.{not-true, not-false}
 use Rattle.array.proofs.Structs.{struct_stands, struct_room, struct_front_long, struct_pairs, made_no, made_room, made_yes}
 use Rattle.array.proofs.write_struct.Goals as goal
 

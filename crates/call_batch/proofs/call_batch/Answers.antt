@@ -1,6 +1,6 @@
 -- The first loop looks at the jobs one after another, and the second does them; what a turn does to the refusal, the
 -- list and the buffer is said in Turns.
-use Rattle.std.proofs.Common.{◌≡◌, ℕ, zero, suc, ◌≤◌, ◌<◌, Bool, true, false, List, cond, length, nat_eq, refl, sym, ap, subst, ◌∙◌, arith, add-one}
+use Rattle.std.proofs.Common.{◌≡◌, ℕ, ◌≤◌, ◌<◌, Bool, true, false, List, cond, length, nat_eq, refl, sym, ap, subst, ◌∙◌, arith, add-one}
 use Rattle.std.proofs.Math.ListN.{length-set}
 use lib.Dec.{T, eqb→eq}
 use Rattle.call_batch.specs.Steps.{counting, doing}
@@ -35,8 +35,7 @@ loop-i-init c =
 
 pub loop-i-preserved : goal.loop-i-preserved
 loop-i-preserved c =
-    let few : c.to_do-checks.result ≤ length c.args.jobs.now = rw c.to_do-checks.ensures (few_turns _ _) in
-    (
+    let few : c.to_do-checks.result ≤ length c.args.jobs.now = rw c.to_do-checks.ensures (few_turns _ _) in (
       omega arith,
       rw (add-one, c.judged-refusal.ensures)
           (judged_one c.args.bytes.now c.args.jobs.now c.args.out.now c.loop-i.i c.loop-i.refusal _ (omega arith)
@@ -52,14 +51,13 @@ do_job-step-requires c =
     let passed = some_turns c.loop-i.refusal (length c.args.jobs.now) (rw c.to_do-turns.ensures at some) in
     let few : c.to_do-turns.result ≤ length c.args.jobs.now = rw c.to_do-turns.ensures (few_turns _ _) in
     let whole = judged_end c.args.bytes.now c.args.jobs.now c.args.out.now c.loop-i.invariant.1 (omega arith)
-        c.to_do-checks.ensures c.counted-refusal.ensures in
+    c.to_do-checks.ensures c.counted-refusal.ensures in
     ready c.args.bytes.now c.args.jobs.now c.args.out.now c.loop-k.k c.loop-k.at c.loop-k.jobs c.loop-k.out _ (omega arith)
-        c.loop-k.invariant.2 (sym whole ∙ passed)
+    c.loop-k.invariant.2 (sym whole ∙ passed)
 
 pub loop-k-preserved : goal.loop-k-preserved
 loop-k-preserved c =
-    let few : c.to_do-turns.result ≤ length c.args.jobs.now = rw c.to_do-turns.ensures (few_turns _ _) in
-    (
+    let few : c.to_do-turns.result ≤ length c.args.jobs.now = rw c.to_do-turns.ensures (few_turns _ _) in (
       omega arith,
       length-set _ _ _ ∙ c.loop-k.invariant.1,
       rw (add-one, c.do_job-step.ensures.0, c.do_job-step.ensures.1)
@@ -70,8 +68,8 @@ loop-k-preserved c =
 pub returns : goal.returns
 returns c =
     let whole = judged_end c.args.bytes.now c.args.jobs.now c.args.out.now c.loop-i.invariant.1 (omega arith)
-        c.to_do-checks.ensures c.counted-refusal.ensures in
+    c.to_do-checks.ensures c.counted-refusal.ensures in
     let last : c.loop-k.k ≡ c.to_do-turns.result = omega arith in
     rw c.whole.ensures (done_all c.args.bytes.now c.args.jobs.now c.args.out.now c.loop-i.refusal c.loop-k.at c.loop-k.jobs
-        c.loop-k.out whole (subst (λ (x : ℕ). Done c.args.bytes.now c.args.jobs.now c.args.out.now x c.loop-k.at c.loop-k.jobs
-        c.loop-k.out) (last ∙ c.to_do-turns.ensures) c.loop-k.invariant.2))
+    c.loop-k.out whole (subst (λ (x : ℕ). Done c.args.bytes.now c.args.jobs.now c.args.out.now x c.loop-k.at c.loop-k.jobs
+    c.loop-k.out) (last ∙ c.to_do-turns.ensures) c.loop-k.invariant.2))

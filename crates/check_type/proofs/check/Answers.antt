@@ -21,7 +21,7 @@ check_array-requires-clause-some_type_row c = record { types = _; row = c.requir
 pub check_array-requires-clause-ends : goal.check_array-requires-clause-ends
 check_array-requires-clause-ends c =
     elem_ends c.requires.good_type.is
-          (sym c.in-Array.is ∙ c.head_at.ensures _ _ c.requires.good_type.is.whole)
+    (sym c.in-Array.is ∙ c.head_at.ensures _ _ c.requires.good_type.is.whole)
 
 pub check_struct-requires-clause-some_given : goal.check_struct-requires-clause-some_given
 check_struct-requires-clause-some_given c = c.requires.some_given

@@ -1,5 +1,4 @@
 -- Each argument converts to the element type, or one doesn't.
-use borrow.Author.Tests.{not-true, not-false}
 use Rattle.check_type.proofs.Checks.{array_no, array_pass}
 use Rattle.check_type.proofs.check_array.Goals as goal
 

@@ -1,6 +1,5 @@
 -- The counts, then the members.
 use mathlib.Core.Path.{sym, ap₂, ◌∙◌}
-use borrow.Author.Tests.{not-true, not-false}
 use Rattle.meaning.specs.Answers.{miscount}
 use Rattle.meaning.specs.Trees.{Tu, tys_list}
 use Rattle.arg_types.proofs.Given.{given_none, given_some}

@@ -1,6 +1,5 @@
 -- The parts, then their number.
 use mathlib.Core.Path.{sym, ap, ◌∙◌}
-use borrow.Author.Tests.{not-true, not-false}
 use Rattle.meaning.specs.Answers.{miscount}
 use Rattle.check_type.proofs.Checks.{parts_not, parts_miscount, parts_pass}
 use Rattle.check_type.proofs.check_vector_parts.Goals as goal

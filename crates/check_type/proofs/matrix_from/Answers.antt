@@ -1,6 +1,5 @@
 -- What stands one level down goes to the kind, or doesn't.
 use mathlib.Core.Path.{sym, ◌∙◌}
-use borrow.Author.Tests.{not-true, not-false}
 use Rattle.meaning.specs.Build.{mat_shape}
 use Rattle.meaning.specs.Trees.{Tm}
 use Rattle.shape.proofs.Downs.{goes_no, goes_to}

@@ -1,11 +1,7 @@
 -- What writes the rest of the columns makes the whole.
-use mathlib.Core.List.{List}
-use Prim.Native.Nat.{ℕ}
 use native.Mathlib.Omega.{arith}
-use Rattle.meaning.specs.Kinds.{Kind}
 use Rattle.record.proofs.Left.{left_same}
-use Rattle.columns.specs.Columns.{Scalars}
-use Rattle.columns.proofs.Columns.{ColumnsLeft, columns_all, columns_front, columns_room, columns_on, columns_end}
+use Rattle.columns.proofs.Columns.{columns_all, columns_front, columns_room, columns_on, columns_end}
 use Rattle.columns.proofs.put_columns.Goals as goal
 
 pub loop-left-init : goal.loop-left-init

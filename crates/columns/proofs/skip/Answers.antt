@@ -1,11 +1,6 @@
 -- Where the first of those that are left end, the first of all do.
-use mathlib.Core.List.{List}
-use Prim.Native.Nat.{◌≤◌}
 use native.Mathlib.Omega.{arith}
-use lib.ListN.{length}
-use Rattle.meaning.specs.Trees.{Val}
-use Rattle.args.specs.Row.{Row}
-use Rattle.columns.proofs.Columns.{SkipLeft, skip_arg, skip_on, skip_end}
+use Rattle.columns.proofs.Columns.{skip_arg, skip_on, skip_end}
 use Rattle.columns.proofs.skip.Goals as goal
 
 pub loop-left-init : goal.loop-left-init

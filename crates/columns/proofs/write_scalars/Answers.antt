@@ -1,7 +1,6 @@
 -- The length decides; then the front, and the columns.
 use mathlib.Core.Path.{sym, ◌∙◌}
 use native.Mathlib.Omega.{arith}
-use borrow.Author.Tests.{not-true, not-false}
 use Rattle.columns.proofs.Hands.{hands_long, hands_room, hands_record}
 use Rattle.columns.proofs.write_scalars.Goals as goal
 

@@ -1,7 +1,6 @@
 -- The length decides; then the front, and the arguments as they are converted.
 use mathlib.Core.Path.{refl, sym, ◌∙◌}
 use native.Mathlib.Omega.{arith}
-use borrow.Author.Tests.{not-true, not-false}
 use Rattle.conv.proofs.Values.{scan_room, scan_put}
 use Rattle.columns.proofs.Hands.{hands_long, hands_room, hands_record, vectors_scan}
 use Rattle.columns.proofs.write_vectors.Goals as goal

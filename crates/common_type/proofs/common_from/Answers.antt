@@ -1,19 +1,9 @@
 -- The type so far and what is left come to the whole.
-use mathlib.Core.Path.{◌≡◌, refl, sym, ◌∙◌}
-use mathlib.Core.List.{List}
-use mathlib.Core.Option.{some}
-use Prim.Native.Nat.{◌-◌}
+use mathlib.Core.Path.{refl, sym, ◌∙◌}
 use native.Mathlib.Omega.{arith}
-use lib.ListN.{length}
-use Rattle.meaning.specs.Trees.{Ty, Val}
-use Rattle.meaning.specs.Convert.{common_from}
-use Rattle.laws.proofs.Left.{Left}
-use Rattle.ty.specs.Stands.{Stands}
 use Rattle.shape.proofs.Places.{cut_whole}
-use Rattle.args.specs.Row.{Row}
 use Rattle.args.proofs.ArgumentRows.{args_some, args_first, args_less, args_on, args_end}
-use Rattle.common_type.specs.Brought.{part_types}
-use Rattle.common_type.proofs.SoFar.{SoFar, part_ends, so_on, so_never, so_end}
+use Rattle.common_type.proofs.SoFar.{part_ends, so_on, so_never, so_end}
 use Rattle.common_type.proofs.common_from.Goals as goal
 
 pub loop-at-init : goal.loop-at-init
@@ -79,14 +69,13 @@ loop-at-smaller c =
     )
 
 pub loop-at-preserved : goal.loop-at-preserved
-loop-at-preserved c =
-    (
-      c.meet.auto.ty ∙ c.loop-at.invariant.0,
-      c.next_part-part.auto.ty ∙ c.loop-at.invariant.1,
-      λ l t w v.
-          args_on (c.loop-at.invariant.2 l t w v) (search) (λ a k x. (c.next_part-part.ensures a k x).next) λ a k x q.
-          so_on q refl (cut_whole (c.next_part-part.ensures a k x).stands (omega arith)) c.meet.result c.meet.new.ty c.meet.ensures c.in-Of.is,
-    )
+loop-at-preserved c = (
+  c.meet.auto.ty ∙ c.loop-at.invariant.0,
+  c.next_part-part.auto.ty ∙ c.loop-at.invariant.1,
+  λ l t w v.
+      args_on (c.loop-at.invariant.2 l t w v) (search) (λ a k x. (c.next_part-part.ensures a k x).next) λ a k x q.
+      so_on q refl (cut_whole (c.next_part-part.ensures a k x).stands (omega arith)) c.meet.result c.meet.new.ty c.meet.ensures c.in-Of.is,
+)
 
 pub shape_of-ty : goal.shape_of-ty
 shape_of-ty c = c.loop-at.invariant.0

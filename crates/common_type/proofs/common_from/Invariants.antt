@@ -1,19 +1,16 @@
 -- The type so far and what is left come to the whole.
-use mathlib.Core.Path.{◌≡◌, refl, sym, ◌∙◌}
+use mathlib.Core.Path.{◌≡◌}
 use mathlib.Core.List.{List}
 use mathlib.Core.Option.{some}
 use Prim.Native.Nat.{◌-◌}
-use native.Mathlib.Omega.{arith}
 use lib.ListN.{length}
 use Rattle.meaning.specs.Trees.{Ty, Val}
 use Rattle.meaning.specs.Convert.{common_from}
 use Rattle.laws.proofs.Left.{Left}
 use Rattle.ty.specs.Stands.{Stands}
-use Rattle.shape.proofs.Places.{cut_whole}
 use Rattle.args.specs.Row.{Row}
-use Rattle.args.proofs.ArgumentRows.{args_some, args_first, args_less, args_on, args_end}
 use Rattle.common_type.specs.Brought.{part_types}
-use Rattle.common_type.proofs.SoFar.{SoFar, part_ends, so_on, so_never, so_end}
+use Rattle.common_type.proofs.SoFar.{SoFar}
 use Rattle.common_type.proofs.common_from.Given as goal
 
 abbrev pub invariant-loop-at : goal.invariant-loop-at

@@ -1,21 +1,12 @@
 -- The scalar so far and what is left come to the whole.
-use mathlib.Core.Path.{◌≡◌, refl, ◌∙◌}
-use mathlib.Core.List.{List}
-use mathlib.Core.Option.{some}
-use Prim.Native.Nat.{◌-◌}
+use mathlib.Core.Path.{refl, ◌∙◌}
 use native.Mathlib.Omega.{arith}
-use lib.ListN.{length, length-set}
-use Rattle.meaning.specs.Trees.{Ty, Val}
-use Rattle.meaning.specs.Convert.{common_from}
-use Rattle.laws.proofs.Left.{Left}
-use Rattle.ty.specs.Stands.{Stands}
-use Rattle.args.specs.Row.{Row}
+use lib.ListN.{length-set}
 use Rattle.args.proofs.ArgumentRows.{args_first, args_on, args_end}
 use Rattle.args.proofs.LiteralArgs.{literal_by, literal_end}
 use Rattle.args.proofs.Firsts.{args_three}
-use Rattle.common_type.specs.Brought.{part_types}
 use Rattle.common_type.proofs.SoFar.{so_end}
-use Rattle.common_type.proofs.ScalarSoFar.{ScalarSoFar, kind_all, kind_on, kind_never, kind_rest}
+use Rattle.common_type.proofs.ScalarSoFar.{kind_all, kind_on, kind_never, kind_rest}
 use Rattle.common_type.proofs.common_literals.Goals as goal
 
 pub loop-at-init : goal.loop-at-init
@@ -85,14 +76,13 @@ loop-at-smaller c =
     omega (arith, c.loop-at-test.true)
 
 pub loop-at-preserved : goal.loop-at-preserved
-loop-at-preserved c =
-    (
-      simp length-set c.loop-at.invariant.0,
-      λ l t w v.
-          args_on (c.loop-at.invariant.1 l t w v) (search) (λ a k x. (literal_end x (literal_by x c.if-args-at-ne115.false) c.literal_len-at.ensures).2) λ a k x q.
-          kind_on (literal_by x c.if-args-at-ne115.false) q c.meet_kinds.result
-          c.meet_kinds.ensures c.in-Kind.is,
-    )
+loop-at-preserved c = (
+  simp length-set c.loop-at.invariant.0,
+  λ l t w v.
+      args_on (c.loop-at.invariant.1 l t w v) (search) (λ a k x. (literal_end x (literal_by x c.if-args-at-ne115.false) c.literal_len-at.ensures).2) λ a k x q.
+      kind_on (literal_by x c.if-args-at-ne115.false) q c.meet_kinds.result
+      c.meet_kinds.ensures c.in-Kind.is,
+)
 
 pub shape_of-ty : goal.shape_of-ty
 shape_of-ty c = c.loop-at.invariant.0

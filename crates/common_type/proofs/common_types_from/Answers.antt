@@ -1,18 +1,9 @@
 -- The type so far and what is left come to the whole.
-use mathlib.Core.Path.{◌≡◌, refl, ◌∙◌}
-use mathlib.Core.List.{List}
-use mathlib.Core.Option.{some}
-use Prim.Native.Nat.{◌-◌}
+use mathlib.Core.Path.{refl, ◌∙◌}
 use native.Mathlib.Omega.{arith}
-use lib.ListN.{length}
-use Rattle.meaning.specs.Trees.{Ty}
-use Rattle.meaning.specs.Convert.{common_from}
-use Rattle.laws.proofs.Left.{Left}
-use Rattle.ty.specs.Stands.{Stands}
-use Rattle.shape.specs.TypeRows.{TypeRow}
 use Rattle.shape.proofs.Places.{cut_whole}
 use Rattle.shape.proofs.TypeRows.{types_standing, types_short, types_ends, types_next, types_less, types_on, types_end}
-use Rattle.common_type.proofs.SoFar.{SoFar, so_on, so_never, so_end}
+use Rattle.common_type.proofs.SoFar.{so_on, so_never, so_end}
 use Rattle.common_type.proofs.common_types_from.Goals as goal
 
 pub loop-at-init : goal.loop-at-init
@@ -76,13 +67,12 @@ loop-at-smaller c =
     )
 
 pub loop-at-preserved : goal.loop-at-preserved
-loop-at-preserved c =
-    (
-      c.meet.auto.ty ∙ c.loop-at.invariant.0,
-      λ l t w v.
-          types_on (c.loop-at.invariant.1 l t w v) (search) (search) λ u k x q.
-          so_on q refl (cut_whole x (omega arith)) c.meet.result c.meet.new.ty c.meet.ensures c.in-Of.is,
-    )
+loop-at-preserved c = (
+  c.meet.auto.ty ∙ c.loop-at.invariant.0,
+  λ l t w v.
+      types_on (c.loop-at.invariant.1 l t w v) (search) (search) λ u k x q.
+      so_on q refl (cut_whole x (omega arith)) c.meet.result c.meet.new.ty c.meet.ensures c.in-Of.is,
+)
 
 pub shape_of-ty : goal.shape_of-ty
 shape_of-ty c = c.loop-at.invariant.0

@@ -1,13 +1,8 @@
 -- What writes the rest makes the whole.
-use mathlib.Core.Path.{◌≡◌, refl, ◌∙◌}
-use mathlib.Core.List.{List}
-use mathlib.Core.Option.{some}
-use Prim.Native.Nat.{◌-◌}
+use mathlib.Core.Path.{refl, ◌∙◌}
 use native.Mathlib.Omega.{arith}
-use lib.ListN.{length}
-use Rattle.meaning.specs.Kinds.{Kind, kind_no}
-use Rattle.conv.specs.Items.{Item, ItemsAt, conv_item, conv_items}
-use Rattle.conv.proofs.Walk.{next_item, next_less, Writing, write_all, write_room, write_on, write_end}
+use Rattle.conv.specs.Items.{conv_item}
+use Rattle.conv.proofs.Walk.{next_item, next_less, write_all, write_room, write_on, write_end}
 use Rattle.conv.proofs.convert_items.Goals as goal
 
 pub loop-i-init : goal.loop-i-init
@@ -35,13 +30,12 @@ loop-i-smaller c =
     )
 
 pub loop-i-preserved : goal.loop-i-preserved
-loop-i-preserved c =
-    (
-      c.put_item-p.auto.out ∙ c.loop-i.invariant.0,
-      λ j l m n w g. write_on (c.loop-i.invariant.1 j l m n w g)
-          c.loop-i-test.true c.item_end-i.ensures
-          (λ a b u q. c.put_item-p.ensures j a b n u q),
-    )
+loop-i-preserved c = (
+  c.put_item-p.auto.out ∙ c.loop-i.invariant.0,
+  λ j l m n w g. write_on (c.loop-i.invariant.1 j l m n w g)
+      c.loop-i-test.true c.item_end-i.ensures
+      (λ a b u q. c.put_item-p.ensures j a b n u q),
+)
 
 pub shape_of-out : goal.shape_of-out
 shape_of-out c = c.loop-i.invariant.0

@@ -1,13 +1,12 @@
 -- What writes the rest makes the whole.
-use mathlib.Core.Path.{◌≡◌, refl, ◌∙◌}
+use mathlib.Core.Path.{◌≡◌}
 use mathlib.Core.List.{List}
 use mathlib.Core.Option.{some}
 use Prim.Native.Nat.{◌-◌}
-use native.Mathlib.Omega.{arith}
 use lib.ListN.{length}
 use Rattle.meaning.specs.Kinds.{Kind, kind_no}
 use Rattle.conv.specs.Items.{Item, ItemsAt, conv_item, conv_items}
-use Rattle.conv.proofs.Walk.{next_item, next_less, Writing, write_all, write_room, write_on, write_end}
+use Rattle.conv.proofs.Walk.{Writing}
 use Rattle.conv.proofs.convert_items.Given as goal
 
 abbrev pub invariant-loop-i : goal.invariant-loop-i

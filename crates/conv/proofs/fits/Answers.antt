@@ -1,12 +1,8 @@
 -- What is left to look at decides.
 use mathlib.Core.Path.{refl}
-use mathlib.Core.List.{List}
-use Prim.Native.Nat.{◌-◌}
 use native.Mathlib.Omega.{arith}
-use borrow.Author.Tests.{not-true, not-false}
-use Rattle.conv.specs.Items.{Item, ItemsAt}
 use Rattle.conv.proofs.Walk.{next_item, next_less}
-use Rattle.conv.proofs.ItemsLeft.{FitLeft, fit_no, fit_on, fit_end}
+use Rattle.conv.proofs.ItemsLeft.{fit_no, fit_on, fit_end}
 use Rattle.conv.proofs.fits.Goals as goal
 
 pub loop-i-init : goal.loop-i-init

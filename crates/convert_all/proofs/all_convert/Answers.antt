@@ -1,7 +1,6 @@
 -- To a scalar one scan decides; else the types, then the literals.
 use mathlib.Core.Path.{sym, ap, ◌∙◌, subst}
 use native.Mathlib.Omega.{arith}
-use borrow.Author.Tests.{not-true, not-false}
 use lib.Dec.{T}
 use Rattle.meaning.specs.Trees.{Ty}
 use Rattle.ty.specs.Stands.{Ends}

@@ -1,7 +1,6 @@
 -- The type decides, then the literals; then it is written if there is room.
 use mathlib.Core.Path.{sym, ◌∙◌, subst}
 use lib.Dec.{T}
-use borrow.Author.Tests.{not-true, not-false}
 use Rattle.error.proofs.BufferAtExit.{refused}
 use Rattle.error.proofs.Told.{told_as}
 use Rattle.convert_to.proofs.ToType.{asked_to, type_no, value_no, value_goes, value_yes}

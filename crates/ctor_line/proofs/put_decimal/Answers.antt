@@ -1,10 +1,7 @@
 -- What writes the rest makes the whole.
 use native.Mathlib.Omega.{arith}
-use Prim.Native.Nat.{◌≤◌}
-use lib.ListN.{length}
-use Rattle.meaning.specs.Entries.{decimal}
 use Rattle.record.proofs.Left.{left_same}
-use Rattle.ctor_line.proofs.Digits.{decimal_short, DigitsLeft, digits_all, digit_room, digit_on, digits_end}
+use Rattle.ctor_line.proofs.Digits.{decimal_short, digits_all, digit_room, digit_on, digits_end}
 use Rattle.ctor_line.proofs.put_decimal.Goals as goal
 
 pub loop-p-init : goal.loop-p-init

@@ -1,10 +1,8 @@
 -- What writes the rest makes the whole.
-use native.Mathlib.Omega.{arith}
 use Prim.Native.Nat.{◌≤◌}
 use lib.ListN.{length}
 use Rattle.meaning.specs.Entries.{decimal}
-use Rattle.record.proofs.Left.{left_same}
-use Rattle.ctor_line.proofs.Digits.{decimal_short, DigitsLeft, digits_all, digit_room, digit_on, digits_end}
+use Rattle.ctor_line.proofs.Digits.{DigitsLeft}
 use Rattle.ctor_line.proofs.put_decimal.Given as goal
 
 abbrev pub invariant-loop-p : goal.invariant-loop-p

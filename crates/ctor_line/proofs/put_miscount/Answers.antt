@@ -10,4 +10,4 @@ returns-clause-put c = rw (← miscount_line c.args.wanted c.args.given) (put_pu
 pub returns-clause-upper_bound : goal.returns-clause-upper_bound
 returns-clause-upper_bound c =
     omega
-          (arith, c.put_word-p.ensures.end, c.put_number-q.ensures.upper_bound, c.put_number-s.ensures.upper_bound, c.put_number.ensures.upper_bound)
+    (arith, c.put_word-p.ensures.end, c.put_number-q.ensures.upper_bound, c.put_number-s.ensures.upper_bound, c.put_number.ensures.upper_bound)

@@ -22,10 +22,10 @@ pub returns-clause-upper_bound : goal.returns-clause-upper_bound
 unfolding line
 returns-clause-upper_bound c =
     omega (
-        arith,
-        c.put_word-p.ensures.end,
-        c.put_hex-q.ensures.end,
-        c.put_byte.ensures.end,
-        hex_length
-            c.args.bytes.now,
-      )
+      arith,
+      c.put_word-p.ensures.end,
+      c.put_hex-q.ensures.end,
+      c.put_byte.ensures.end,
+      hex_length
+          c.args.bytes.now,
+    )

@@ -1,9 +1,9 @@
 -- The powers of ten up to n, one after another.
 use mathlib.Core.Path.{refl, sym, ap, ◌∙◌}
-use Prim.Native.Nat.{suc, ◌-◌, ◌*◌}
+use Prim.Native.Nat.{suc, ◌*◌}
 use native.Mathlib.Omega.{arith}
 use native.Mathlib.Nat.{pow-suc}
-use Rattle.ctor_line.proofs.Digits.{Power, power_some}
+use Rattle.ctor_line.proofs.Digits.{power_some}
 use Rattle.ctor_line.proofs.top_power.Goals as goal
 
 pub loop-p-init : goal.loop-p-init

@@ -1,12 +1,10 @@
 -- `derive` calls itself and `derive_members` at a depth one less, and `derive_members` calls `derive` at its own depth:
 -- 2d for `derive` and 2d + 1 for `derive_members`.
-use mathlib.Core.Path.{◌≡◌, refl, ◌∙◌, subst}
-use mathlib.Core.List.{List}
-use Prim.Native.Nat.{ℕ, ◌+◌, ◌-◌, ◌*◌, ◌≤◌, ◌<◌}
+use mathlib.Core.Path.{refl, ◌∙◌, subst}
+use Prim.Native.Nat.{◌+◌, ◌-◌}
 use native.Mathlib.Omega.{arith}
-use lib.ListN.{length}
 use Rattle.inst.specs.Reading.{ReadEach}
-use Rattle.derive.specs.Derives.{Tried, type_front, Derives, DerivesAll}
+use Rattle.derive.specs.Derives.{Tried, type_front, Derives}
 use Rattle.inst.specs.declared.ValueEnd.{ValueEnd}
 use Rattle.inst.specs.declared.Derived.{Derived}
 use Rattle.inst.specs.declared.Derived.TheVariants.{Ends, Unfit}

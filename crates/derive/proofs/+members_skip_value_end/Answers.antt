@@ -1,13 +1,11 @@
 -- `value_end` calls itself and `members_skip` at a depth one less, and `members_skip` calls `value_end` at its own
 -- depth: 2d for `value_end` and 2d + 1 for `members_skip`.
 use mathlib.Core.Path.{subst}
-use Prim.Native.Nat.{ℕ, ◌+◌, ◌*◌, ◌<◌}
 use native.Mathlib.Omega.{arith}
-use Rattle.meaning.specs.Trees.{Ts, Tv, Tm, Tys, val_len}
+use Rattle.meaning.specs.Trees.{Ts, Tv, Tm, val_len}
 use Rattle.record.specs.Literals.{most_lit}
-use Rattle.inst.specs.Values.{TypedAll}
 use Rattle.derive.specs.Derives.{FrontIs}
-use Rattle.derive.proofs.Skips.{leaf_end, first_having, array_end, members_having, struct_end, SkipLeft, left_having, left_skip}
+use Rattle.derive.proofs.Skips.{leaf_end, first_having, array_end, members_having, struct_end, left_having, left_skip}
 use Rattle.derive.proofs.Skips.{left_done}
 use Rattle.derive.proofs.+members_skip_value_end.Goals as goal
 
@@ -17,12 +15,11 @@ members_skip-loop-left-init t c = λ m e w. record { types = m; typed = w }
 
 pub members_skip-value_end-i-requires : goal.members_skip-value_end-i-requires
 unfolding val_len
-members_skip-value_end-i-requires t c =
-    (
-      omega (arith, c.decreases),
-      left_having c.args.depth c.args.s.now c.loop-left.i c.loop-left.left c.requires.end
-          (c.loop-left.invariant c.requires.types c.requires.end c.requires.typed) c.loop-left-test.true,
-    )
+members_skip-value_end-i-requires t c = (
+  omega (arith, c.decreases),
+  left_having c.args.depth c.args.s.now c.loop-left.i c.loop-left.left c.requires.end
+      (c.loop-left.invariant c.requires.types c.requires.end c.requires.typed) c.loop-left-test.true,
+)
 
 pub members_skip-loop-left-preserved : goal.members_skip-loop-left-preserved
 unfolding val_len

@@ -1,14 +1,9 @@
 -- `value_end` calls itself and `members_skip` at a depth one less, and `members_skip` calls `value_end` at its own
 -- depth: 2d for `value_end` and 2d + 1 for `members_skip`.
-use mathlib.Core.Path.{subst}
-use Prim.Native.Nat.{ℕ, ◌+◌, ◌*◌, ◌<◌}
-use native.Mathlib.Omega.{arith}
-use Rattle.meaning.specs.Trees.{Ts, Tv, Tm, Tys, val_len}
-use Rattle.record.specs.Literals.{most_lit}
+use Prim.Native.Nat.{ℕ, ◌+◌, ◌*◌}
+use Rattle.meaning.specs.Trees.{Tys}
 use Rattle.inst.specs.Values.{TypedAll}
-use Rattle.derive.specs.Derives.{FrontIs}
-use Rattle.derive.proofs.Skips.{leaf_end, first_having, array_end, members_having, struct_end, SkipLeft, left_having, left_skip}
-use Rattle.derive.proofs.Skips.{left_done}
+use Rattle.derive.proofs.Skips.{SkipLeft}
 use Rattle.derive.proofs.+members_skip_value_end.Given as goal
 
 abbrev pub decreases-members_skip : goal.decreases-members_skip

@@ -2,7 +2,6 @@
 use mathlib.Core.Path.{ap, ◌∙◌}
 use Prim.Native.Nat.{◌*◌, ◌/◌, ◌^◌, min}
 use native.Mathlib.Nat.{le_of_eq, le_trans, min-le_right}
-use native.Mathlib.Omega.{arith}
 use Rattle.meaning.specs.Scalars as Scalars
 use Rattle.float.proofs.Ranges.{end_le}
 use Rattle.float.proofs.toward.Goals as goal

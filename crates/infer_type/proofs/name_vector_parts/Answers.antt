@@ -1,6 +1,5 @@
 -- The parts, then their number, then their common kind.
 use mathlib.Core.Path.{sym, ap, ◌∙◌}
-use borrow.Author.Tests.{not-true, not-false}
 use Rattle.meaning.specs.Answers.{miscount}
 use Rattle.arg_types.proofs.Given.{given_two}
 use Rattle.infer_type.proofs.Shapes.{kinds_of, qv_not, qv_miscount, qv_found, qv_nothing}

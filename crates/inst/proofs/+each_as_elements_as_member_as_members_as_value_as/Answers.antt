@@ -1,21 +1,15 @@
 -- `value_as` calls `elements_as` and `members_as` at a depth one less; `elements_as` calls `each_as`, `members_as`
 -- calls `member_as`, and these two call `value_as`, each at its own depth d: 4d for `value_as`, 4d + 1 for `member_as`,
 -- 4d + 2 for the loops, 4d + 3 for `elements_as`.
-use mathlib.Core.Path.{◌≡◌, refl, sym, ◌∙◌, subst}
-use Prim.Native.Nat.{ℕ, ◌+◌, ◌*◌, ◌≤◌, ◌<◌}
+use mathlib.Core.Path.{refl, sym, ◌∙◌, subst}
 use native.Mathlib.Omega.{arith}
-use lib.ListN.{length}
-use Rattle.meaning.specs.Trees.{Ty, Tys}
-use Rattle.ty.specs.Stands.{Stands, StandAll}
-use Rattle.ty.specs.TypeFronts.{Same}
 use Rattle.ty.proofs.Heads.{any_front, array_here, struct_here}
 use Rattle.ty.proofs.Walks.{same_trans}
-use Rattle.inst.specs.Values.{FitsAll, copies}
 use Rattle.inst.specs.Reading.{ReadAs}
 use Rattle.inst.proofs.ValueRows.{holds, fails, each_on, each_none, each_end}
 use Rattle.inst.proofs.ByType.{scalar_kind, vector_kind, matrix_kind, scalar_says, scalars_say, vector_says, vectors_say}
 use Rattle.inst.proofs.ByType.{matrix_says, array_unlike, array_says, struct_unlike, struct_says}
-use Rattle.inst.proofs.ByType.{MembersLeft, left_first, left_again, left_none, left_end}
+use Rattle.inst.proofs.ByType.{left_first, left_again, left_none, left_end}
 use Rattle.inst.proofs.+each_as_elements_as_member_as_members_as_value_as.Goals as goal
 
 pub each_as-loop-left-init : goal.each_as-loop-left-init
@@ -33,8 +27,7 @@ each_as-returns-in-Unfit t c =
 pub each_as-loop-left-preserved : goal.each_as-loop-left-preserved
 each_as-loop-left-preserved t c =
     let v = subst (ReadAs c.args.depth c.args.ty.now c.args.o c.args.s.now c.loop-left.i) c.in-Ends.is
-    c.value_as.ensures in
-    (
+    c.value_as.ensures in (
       (v c.requires.0.type c.requires.0.end c.requires.0.stands).0.within,
       λ u z w. let x = v u z w in (
         same_trans (each_on c.args.s.now c.loop-left.i c.loop-left.left u c.loop-left-test.true
@@ -52,11 +45,10 @@ pub elements_as-head_at-h-requires : goal.elements_as-head_at-h-requires
 elements_as-head_at-h-requires t c = c.requires.0
 
 pub elements_as-literals-requires : goal.elements_as-literals-requires
-elements_as-literals-requires t c =
-    (
-      scalar_kind c.args.depth c.args.ty.now c.args.o (search) c.head_at-h.ensures c.in-Scalar.is,
-      c.requires.1,
-    )
+elements_as-literals-requires t c = (
+  scalar_kind c.args.depth c.args.ty.now c.args.o (search) c.head_at-h.ensures c.in-Scalar.is,
+  c.requires.1,
+)
 
 pub elements_as-overflow_add-o : goal.elements_as-overflow_add-o
 elements_as-overflow_add-o t c = record { fits = omega (arith, any_front c.requires.0.stands) }
@@ -69,11 +61,10 @@ elements_as-returns-in-Scalar t c =
     c.literals.ensures)
 
 pub elements_as-columns-requires : goal.elements_as-columns-requires
-elements_as-columns-requires t c =
-    (
-      vector_kind c.args.depth c.args.ty.now c.args.o (search) c.head_at-h.ensures c.in-Vector.is,
-      c.requires.1,
-    )
+elements_as-columns-requires t c = (
+  vector_kind c.args.depth c.args.ty.now c.args.o (search) c.head_at-h.ensures c.in-Vector.is,
+  c.requires.1,
+)
 
 pub elements_as-returns-in-Vector : goal.elements_as-returns-in-Vector
 elements_as-returns-in-Vector t c =
@@ -128,12 +119,11 @@ pub members_as-loop-left-init : goal.members_as-loop-left-init
 members_as-loop-left-init t c = (c.requires.1, λ m z w. record { types = m; stands = w; same = λ e. ((λ x. x), λ x. x) })
 
 pub members_as-member_as-requires : goal.members_as-member_as-requires
-members_as-member_as-requires t c =
-    (
-      omega (arith, c.decreases),
-      left_first c.args.depth c.args.ty.now c.args.s.now c.args.at c.requires.0.types c.requires.0.end
-          c.loop-left.i c.loop-left.q c.loop-left.left (c.loop-left.invariant.1 c.requires.0.types c.requires.0.end c.requires.0.stands) c.loop-left-test.true,
-    )
+members_as-member_as-requires t c = (
+  omega (arith, c.decreases),
+  left_first c.args.depth c.args.ty.now c.args.s.now c.args.at c.requires.0.types c.requires.0.end
+      c.loop-left.i c.loop-left.q c.loop-left.left (c.loop-left.invariant.1 c.requires.0.types c.requires.0.end c.requires.0.stands) c.loop-left-test.true,
+)
 
 pub members_as-returns-in-Unfit : goal.members_as-returns-in-Unfit
 members_as-returns-in-Unfit t c =

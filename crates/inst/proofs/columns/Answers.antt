@@ -1,14 +1,11 @@
 -- The columns from i on end where all of them do.
 use mathlib.Core.Path.{◌≡◌, subst}
-use Prim.Native.Nat.{◌≤◌}
 use native.Mathlib.Omega.{arith}
-use lib.ListN.{length}
 use Rattle.meaning.specs.Kinds.{Kind, kind_no}
 use Rattle.meaning.specs.Trees.{Tv}
-use Rattle.ty.specs.TypeFronts.{Same}
 use Rattle.ty.proofs.Numbers.{kind_of_lem}
 use Rattle.ty.proofs.Walks.{same_trans}
-use Rattle.inst.specs.Values.{Fits, FitsAll, copies}
+use Rattle.inst.specs.Values.{Fits}
 use Rattle.inst.specs.Reading.{Told}
 use Rattle.inst.proofs.ValueRows.{each_on, each_none, each_end}
 use Rattle.inst.proofs.columns.Goals as goal

@@ -1,17 +1,11 @@
 -- The literals from i on end where all of them do.
 use mathlib.Core.Path.{◌≡◌}
-use Prim.Native.Nat.{◌+◌, ◌≤◌}
-use native.Mathlib.Omega.{arith}
+use Prim.Native.Nat.{◌≤◌}
 use lib.ListN.{length}
 use Rattle.meaning.specs.Kinds.{Kind, kind_no}
 use Rattle.meaning.specs.Trees.{Ts}
 use Rattle.ty.specs.TypeFronts.{Same}
-use Rattle.ty.proofs.Numbers.{kind_of_lem}
-use Rattle.ty.proofs.Walks.{same_trans}
-use Rattle.inst.specs.Values.{Fits, FitsAll, copies}
-use Rattle.inst.specs.Reading.{KindIs}
-use Rattle.inst.proofs.ValueRows.{holds, fails, each_on, each_none, each_end}
-use Rattle.inst.proofs.Lits.{kind_is, literal_none}
+use Rattle.inst.specs.Values.{FitsAll, copies}
 use Rattle.inst.proofs.literals.Given as goal
 
 abbrev pub invariant-loop-left : goal.invariant-loop-left

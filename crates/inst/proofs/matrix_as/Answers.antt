@@ -24,12 +24,11 @@ overflow_add-at c =
 
 pub columns-requires : goal.columns-requires
 unfolding parts_of front_bytes
-columns-requires c =
-    (
-      c.requires,
-      (holds c.four_at.result c.four_at.ensures
-          c.if-not-four_at.false).room,
-    )
+columns-requires c = (
+  c.requires,
+  (holds c.four_at.result c.four_at.ensures
+      c.if-not-four_at.false).room,
+)
 
 pub returns : goal.returns
 unfolding parts_of front_bytes

@@ -24,12 +24,11 @@ overflow_add-at c =
 
 pub literals-requires : goal.literals-requires
 unfolding parts_of front_bytes
-literals-requires c =
-    (
-      c.requires,
-      (holds c.vector_starts.result
-          c.vector_starts.ensures c.if-not-vector_starts.false).room,
-    )
+literals-requires c = (
+  c.requires,
+  (holds c.vector_starts.result
+      c.vector_starts.ensures c.if-not-vector_starts.false).room,
+)
 
 pub returns : goal.returns
 unfolding parts_of front_bytes

@@ -1,12 +1,10 @@
 -- `walk_laid` calls itself and `members_laid` at a depth one less, and `members_laid` calls `walk_laid` at its own
 -- depth: 2d for `walk_laid` and 2d + 1 for `members_laid`.
 use mathlib.Core.Path.{refl}
-use Prim.Native.Nat.{ℕ, ◌+◌, ◌*◌, ◌≤◌, ◌<◌}
+use Prim.Native.Nat.{◌≤◌}
 use native.Mathlib.Omega.{arith}
-use Rattle.meaning.specs.Trees.{Tys}
-use Rattle.ty.specs.Stands.{StandAll}
 use Rattle.layout.proofs.Parts.{array_deep, array_part, struct_deep, struct_parts}
-use Rattle.layout.proofs.LaidTypes.{scalar_laid, vector_laid, matrix_laid, array_laid, struct_laid, LaidLeft, laid_first}
+use Rattle.layout.proofs.LaidTypes.{scalar_laid, vector_laid, matrix_laid, array_laid, struct_laid, laid_first}
 use Rattle.layout.proofs.LaidTypes.{laid_again, laid_bad, laid_none}
 use Rattle.layout.proofs.+members_laid_walk_laid.Goals as goal
 
@@ -14,12 +12,11 @@ pub members_laid-loop-left-init : goal.members_laid-loop-left-init
 members_laid-loop-left-init t c = λ m e w. record { types = m; stands = w; same = refl }
 
 pub members_laid-walk_laid-requires : goal.members_laid-walk_laid-requires
-members_laid-walk_laid-requires t c =
-    (
-      omega (arith, c.decreases),
-      laid_first (c.loop-left.invariant c.requires.types c.requires.end c.requires.stands)
-          c.loop-left-test.true,
-    )
+members_laid-walk_laid-requires t c = (
+  omega (arith, c.decreases),
+  laid_first (c.loop-left.invariant c.requires.types c.requires.end c.requires.stands)
+      c.loop-left-test.true,
+)
 
 pub members_laid-returns-in-Bad : goal.members_laid-returns-in-Bad
 members_laid-returns-in-Bad t c = λ m e w. let g = c.loop-left.invariant m e w in search laid_bad

@@ -1,7 +1,6 @@
 -- `literal::ranged` meets its contract: the two tests are those of the definition.
 use borrow.Author.Tests.{not-true, not-false}
 use Rattle.literal.specs.LiteralAnswers.{paper}
-use borrow.Author.Rules.{rules}
 use Rattle.literal.proofs.ranged.Goals as goal
 
 pub returns-then-not-rules : goal.returns-then-not-rules

@@ -1,4 +1,3 @@
-
 use Rattle.literal.specs.LiteralAnswers.{paper}
 use Rattle.literal_c.specs.LiteralNumbers.{payload_of}
 use Rattle.literal_c.proofs.payload.Goals as goal

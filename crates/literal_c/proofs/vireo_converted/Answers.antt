@@ -1,4 +1,3 @@
-
 use Rattle.literal_c.specs.LiteralNumbers.{or_zero}
 use Rattle.literal_c.proofs.Shown.{fits, not}
 use Rattle.literal_c.proofs.vireo_converted.Goals as goal

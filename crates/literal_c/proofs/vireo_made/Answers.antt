@@ -1,4 +1,3 @@
-
 use mathlib.Core.Path.{ap, ◌∙◌}
 use Rattle.literal_c.specs.LiteralNumbers.{payload_of}
 use Rattle.literal_c.proofs.Shown.{built, no_stage}

@@ -1,4 +1,3 @@
-
 use mathlib.Core.Path.{ap, ◌∙◌}
 use Rattle.meaning.specs.Answers.{refusal_of}
 use Rattle.literal_c.proofs.Shown.{built, no_stage}

@@ -1,5 +1,4 @@
 -- Whether the first one's kind converts decides; then the arguments go to the type with the target's kind.
-use borrow.Author.Tests.{not-true, not-false}
 use Rattle.error.proofs.BufferAtExit.{builds_no}
 use Rattle.shape.proofs.Downs.{kind_stays, kind_goes}
 use Rattle.matrix.proofs.Downs.{float_no}

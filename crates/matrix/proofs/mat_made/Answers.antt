@@ -1,6 +1,5 @@
 -- The constructor's refusals decide; then the length, and the literals made.
 use mathlib.Core.Path.{sym, ◌∙◌}
-use borrow.Author.Tests.{not-true, not-false}
 use Rattle.error.proofs.BufferAtExit.{builds_as, builds_no}
 use Rattle.scalar.proofs.MadeValues.{making_items, making_ok, making_no, making_room, making_put}
 use Rattle.columns.proofs.Hands.{hands_long, hands_whole, hands_put}

@@ -1,7 +1,6 @@
 -- The mark, the size, the kind; then the constructors.
 use mathlib.Core.Path.{sym, refl, ◌∙◌}
 use mathlib.Core.List.{[]}
-use borrow.Author.Tests.{not-true, not-false}
 use Rattle.error.proofs.BufferAtExit.{builds_as, builds_no}
 use Rattle.scalar.proofs.OneLiteral.{abstract_is, concrete}
 use Rattle.matrix.proofs.Downs.{float_no}

@@ -1,7 +1,6 @@
 -- The first argument's type, and its kind one level down; then the type with the target's kind.
 use mathlib.Core.Path.{sym, ◌∙◌}
 use native.Mathlib.Omega.{arith}
-use borrow.Author.Tests.{not-true, not-false}
 use Rattle.error.proofs.BufferAtExit.{builds_no}
 use Rattle.shape.proofs.Downs.{goes_no, goes_to}
 use Rattle.matrix.proofs.Downs.{float_no, type_some}

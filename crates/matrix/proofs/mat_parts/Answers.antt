@@ -14,8 +14,8 @@ mat_by-requires-clause-some_first c = c.requires.some_first
 pub mat_by-requires-clause-first_as : goal.mat_by-requires-clause-first_as
 mat_by-requires-clause-first_as c =
     scalar_first (subst (λ (r : Head). HeadOf
-            c.args.args.now 0 r)
-            c.in-Scalar.is c.head_of.ensures)
+    c.args.args.now 0 r)
+    c.in-Scalar.is c.head_of.ensures)
 
 pub mat_by-requires-in-Vector-clause-t : goal.mat_by-requires-in-Vector-clause-t
 mat_by-requires-in-Vector-clause-t c = c.requires.t.2
@@ -26,5 +26,5 @@ mat_by-requires-in-Vector-clause-some_first c = c.requires.some_first
 pub mat_by-requires-in-Vector-clause-first_as : goal.mat_by-requires-in-Vector-clause-first_as
 mat_by-requires-in-Vector-clause-first_as c =
     vector_first (subst (λ (r : Head). HeadOf
-            c.args.args.now 0 r)
-            c.in-Vector.is c.head_of.ensures)
+    c.args.args.now 0 r)
+    c.in-Vector.is c.head_of.ensures)

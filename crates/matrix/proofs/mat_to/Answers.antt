@@ -1,7 +1,5 @@
 -- Whether all convert decides; then the shape.
 use mathlib.Core.Path.{sym, ◌∙◌}
-use native.Mathlib.Omega.{arith}
-use borrow.Author.Tests.{not-true, not-false}
 use Rattle.error.proofs.BufferAtExit.{builds_as, builds_no}
 use Rattle.matrix.proofs.MatrixParts.{to_asked, to_no, to_becoming, to_made}
 use Rattle.matrix.proofs.mat_to.Goals as goal

@@ -2,7 +2,6 @@
 use mathlib.Core.Path.{refl, sym, ◌∙◌}
 use mathlib.Core.List.{[], ◌∷◌}
 use native.Mathlib.Omega.{arith}
-use borrow.Author.Tests.{not-true, not-false}
 use Rattle.error.proofs.BufferAtExit.{builds_as, builds_no}
 use Rattle.args.proofs.Kept.{hand_kept}
 use Rattle.matrix.proofs.OneToMatrix.{one_mark, qm_other, matrix_is, qm_unequal, qm_kept}

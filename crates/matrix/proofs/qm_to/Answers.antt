@@ -1,6 +1,5 @@
 -- The kind decides, then whether all literals fit it; then the shape.
 use mathlib.Core.Path.{sym, ◌∙◌}
-use borrow.Author.Tests.{not-true, not-false}
 use Rattle.error.proofs.BufferAtExit.{builds_as, builds_no}
 use Rattle.matrix.proofs.MatrixParts.{typed_standing, typed_other, typed_items, typed_no, float, typed_becoming, typed_made}
 use Rattle.matrix.proofs.qm_to.Goals as goal

@@ -1,6 +1,5 @@
 -- The arguments are one well-formed type, whose rank it is; or they are not, which is 2.
 use mathlib.Core.Path.{refl, sym, ◌∙◌}
-use borrow.Author.Tests.{not-true, not-false}
 use Rattle.meaning.specs.Trees.{Of}
 use Rattle.meaning.specs.Records.{good_arg}
 use Rattle.meaning.specs.Entries.{rank_one}

@@ -26,7 +26,7 @@ returns-in_default-leaf_at c =
 pub same_shape-requires-clause-in_bounds : goal.same_shape-requires-clause-in_bounds
 same_shape-requires-clause-in_bounds c =
     some_byte c.requires.one_type.stands (sym c.in-Kind.is
-          ∙ c.leaf_at.ensures _ _ c.requires.one_type.stands)
+    ∙ c.leaf_at.ensures _ _ c.requires.one_type.stands)
 
 pub same_shape-requires-clause-in_bounds_2 : goal.same_shape-requires-clause-in_bounds_2
 same_shape-requires-clause-in_bounds_2 c = some_byte c.requires.one_type_2.stands (sym c.in-Kind-leaf_at.is ∙ c.leaf_at-2.ensures _ _ c.requires.one_type_2.stands)

@@ -1,7 +1,6 @@
 -- `read_value` calls `read_elements` and `read_members` at a depth one less; `read_elements` calls `each_element`,
 -- `read_members` calls `read_member`, and these two call `read_value`, each at its own depth d: 4d for `read_value`, 4d
 -- + 1 for `read_member`, 4d + 2 for the loops, 4d + 3 for `read_elements`.
-use Prim.Native.Nat.{ℕ, ◌+◌, ◌*◌, ◌<◌}
 use native.Mathlib.Omega.{arith}
 use Rattle.read_layout.proofs.Values.{value_stands, scalar_end, scalar_room, scalar_done, vector_end, vector_room, vector_done}
 use Rattle.read_layout.proofs.Values.{matrix_end, matrix_front, matrix_room, matrix_done, array_front_lem, array_end, array_deep}
@@ -9,9 +8,9 @@ use Rattle.read_layout.proofs.Values.{array_room, array_done}
 use Rattle.read_layout.proofs.Values.{struct_front_lem, struct_end, struct_deep, struct_room, struct_within, struct_done}
 use Rattle.read_layout.proofs.Values.{elements_stand, scalars_last, scalars_room, scalars_done, vectors_last, vectors_room}
 use Rattle.read_layout.proofs.Values.{vectors_done}
-use Rattle.read_layout.proofs.Parted.{ElementsLeft, elements_all, elements_same, element_room, element_within, element_on}
+use Rattle.read_layout.proofs.Parted.{elements_all, elements_same, element_room, element_within, element_on}
 use Rattle.read_layout.proofs.Parted.{elements_end}
-use Rattle.read_layout.proofs.Parted.{MembersLeft, members_all, members_same, member_index, member_within, member_room, member_on}
+use Rattle.read_layout.proofs.Parted.{members_all, members_same, member_index, member_within, member_room, member_on}
 use Rattle.read_layout.proofs.Parted.{members_end}
 use Rattle.read_layout.proofs.+each_element_read_elements_read_member_read_members_read_value.Goals as goal
 
@@ -76,11 +75,10 @@ pub read_elements-returns-in-Vector : goal.read_elements-returns-in-Vector
 read_elements-returns-in-Vector t c = search vectors_done
 
 pub read_elements-each_element-requires : goal.read_elements-each_element-requires
-read_elements-each_element-requires t c =
-    (
-      omega (arith, c.decreases),
-      c.requires,
-    )
+read_elements-each_element-requires t c = (
+  omega (arith, c.decreases),
+  c.requires,
+)
 
 pub read_elements-returns : goal.read_elements-returns
 read_elements-returns t c = c.each_element.ensures
@@ -119,11 +117,10 @@ pub read_member-returns-in-Vector : goal.read_member-returns-in-Vector
 read_member-returns-in-Vector t c = search vector_done
 
 pub read_member-read_value-requires : goal.read_member-read_value-requires
-read_member-read_value-requires t c =
-    (
-      omega (arith, c.decreases),
-      c.requires,
-    )
+read_member-read_value-requires t c = (
+  omega (arith, c.decreases),
+  c.requires,
+)
 
 pub read_member-returns : goal.read_member-returns
 read_member-returns t c = c.read_value.ensures
@@ -245,15 +242,14 @@ pub read_value-overflow_sub-depth : goal.read_value-overflow_sub-depth
 read_value-overflow_sub-depth t c = search array_deep
 
 pub read_value-read_elements-requires : goal.read_value-read_elements-requires
-read_value-read_elements-requires t c =
-    (
-      omega (
-        arith,
-        c.decreases,
-        array_deep c.requires (search) c.in-Array.is,
-      ),
-      search array_room,
-    )
+read_value-read_elements-requires t c = (
+  omega (
+    arith,
+    c.decreases,
+    array_deep c.requires (search) c.in-Array.is,
+  ),
+  search array_room,
+)
 
 pub read_value-put_struct-p-requires : goal.read_value-put_struct-p-requires
 read_value-put_struct-p-requires t c = search struct_front_lem
@@ -271,16 +267,15 @@ pub read_value-overflow_sub-depth-in-Struct : goal.read_value-overflow_sub-depth
 read_value-overflow_sub-depth-in-Struct t c = search struct_deep
 
 pub read_value-read_members-w-requires : goal.read_value-read_members-w-requires
-read_value-read_members-w-requires t c =
-    (
-      omega (
-        arith,
-        c.decreases,
-        struct_deep c.requires
-            (search) c.in-Struct.is,
-      ),
-      search struct_room,
-    )
+read_value-read_members-w-requires t c = (
+  omega (
+    arith,
+    c.decreases,
+    struct_deep c.requires
+        (search) c.in-Struct.is,
+  ),
+  search struct_room,
+)
 
 pub read_value-bounds-pads-o-in-Struct : goal.read_value-bounds-pads-o-in-Struct
 read_value-bounds-pads-o-in-Struct t c =

@@ -1,18 +1,9 @@
 -- `read_value` calls `read_elements` and `read_members` at a depth one less; `read_elements` calls `each_element`,
 -- `read_members` calls `read_member`, and these two call `read_value`, each at its own depth d: 4d for `read_value`, 4d
 -- + 1 for `read_member`, 4d + 2 for the loops, 4d + 3 for `read_elements`.
-use Prim.Native.Nat.{ℕ, ◌+◌, ◌*◌, ◌<◌}
-use native.Mathlib.Omega.{arith}
-use Rattle.read_layout.proofs.Values.{value_stands, scalar_end, scalar_room, scalar_done, vector_end, vector_room, vector_done}
-use Rattle.read_layout.proofs.Values.{matrix_end, matrix_front, matrix_room, matrix_done, array_front_lem, array_end, array_deep}
-use Rattle.read_layout.proofs.Values.{array_room, array_done}
-use Rattle.read_layout.proofs.Values.{struct_front_lem, struct_end, struct_deep, struct_room, struct_within, struct_done}
-use Rattle.read_layout.proofs.Values.{elements_stand, scalars_last, scalars_room, scalars_done, vectors_last, vectors_room}
-use Rattle.read_layout.proofs.Values.{vectors_done}
-use Rattle.read_layout.proofs.Parted.{ElementsLeft, elements_all, elements_same, element_room, element_within, element_on}
-use Rattle.read_layout.proofs.Parted.{elements_end}
-use Rattle.read_layout.proofs.Parted.{MembersLeft, members_all, members_same, member_index, member_within, member_room, member_on}
-use Rattle.read_layout.proofs.Parted.{members_end}
+use Prim.Native.Nat.{◌+◌, ◌*◌}
+use Rattle.read_layout.proofs.Parted.{ElementsLeft}
+use Rattle.read_layout.proofs.Parted.{MembersLeft}
 use Rattle.read_layout.proofs.+each_element_read_elements_read_member_read_members_read_value.Given as goal
 
 abbrev pub decreases-each_element : goal.decreases-each_element

@@ -1,6 +1,6 @@
 -- What writes the rest makes the whole; the padding behind each vector leads to the next.
 use native.Mathlib.Omega.{arith}
-use Rattle.read_layout.proofs.Vectors.{ColumnsLeft, columns_all, columns_same, column_room, column_within, column_on, columns_end}
+use Rattle.read_layout.proofs.Vectors.{columns_all, columns_same, column_room, column_within, column_on, columns_end}
 use Rattle.read_layout.proofs.read_columns.Goals as goal
 
 pub loop-left-init : goal.loop-left-init

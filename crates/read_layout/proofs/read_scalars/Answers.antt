@@ -1,6 +1,6 @@
 -- What writes the rest makes the whole; the place in memory says what the rest is.
 use native.Mathlib.Omega.{arith}
-use Rattle.read_layout.proofs.Scalars.{ScalarsLeft, scalars_all, scalars_same, scalar_within, scalar_room, scalar_on, scalars_end}
+use Rattle.read_layout.proofs.Scalars.{scalars_all, scalars_same, scalar_within, scalar_room, scalar_on, scalars_end}
 use Rattle.read_layout.proofs.read_scalars.Goals as goal
 
 pub loop-left-init : goal.loop-left-init

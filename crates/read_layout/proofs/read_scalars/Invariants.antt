@@ -1,6 +1,5 @@
 -- What writes the rest makes the whole; the place in memory says what the rest is.
-use native.Mathlib.Omega.{arith}
-use Rattle.read_layout.proofs.Scalars.{ScalarsLeft, scalars_all, scalars_same, scalar_within, scalar_room, scalar_on, scalars_end}
+use Rattle.read_layout.proofs.Scalars.{ScalarsLeft}
 use Rattle.read_layout.proofs.read_scalars.Given as goal
 
 abbrev pub invariant-loop-left : goal.invariant-loop-left

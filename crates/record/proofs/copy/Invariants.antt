@@ -1,11 +1,9 @@
 -- What copies the rest makes the whole.
-use mathlib.Core.Path.{◌≡◌, refl}
+use mathlib.Core.Path.{◌≡◌}
 use mathlib.Core.List.{List}
 use Prim.Native.Nat.{ℕ, ◌+◌, ◌-◌, ◌≤◌}
-use native.Mathlib.Omega.{arith}
-use lib.ListN.{length, take, drop, length-set}
+use lib.ListN.{length, take, drop}
 use Rattle.record.specs.Bytes.{Put}
-use Rattle.record.proofs.Puts.{put_nil, put_one, put_put, copy_step}
 use Rattle.record.proofs.copy.Given as goal
 
 abbrev pub invariant-loop-i : goal.invariant-loop-i

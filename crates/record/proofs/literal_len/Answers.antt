@@ -11,7 +11,7 @@ pub returns : goal.returns
 unfolding lit_len
 returns c =
     record {
-  is = λ j q. ap (λ (x : ℕ). 3 + x) (c.width.ensures.0 ∙ (ap width_of q ∙ width_of_lem j));
-  small = omega
-      (arith, c.width.ensures.2);
-}
+      is = λ j q. ap (λ (x : ℕ). 3 + x) (c.width.ensures.0 ∙ (ap width_of q ∙ width_of_lem j));
+      small = omega
+          (arith, c.width.ensures.2);
+    }

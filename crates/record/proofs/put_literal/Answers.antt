@@ -5,16 +5,15 @@ use native.Mathlib.Omega.{arith}
 use Rattle.record.proofs.put_literal.Goals as goal
 
 pub put_le-requires : goal.put_le-requires
-put_le-requires c =
-    (
-      c.width.ensures.1,
-      omega (
-        arith,
-        c.width.ensures.0,
-        c.put_three-p.ensures.end,
-        c.put_three-p.auto.out,
-      ),
-    )
+put_le-requires c = (
+  c.width.ensures.1,
+  omega (
+    arith,
+    c.width.ensures.0,
+    c.put_three-p.ensures.end,
+    c.put_three-p.auto.out,
+  ),
+)
 
 pub returns : goal.returns
 unfolding literal_of

@@ -1,8 +1,7 @@
 -- What writes the rest makes the whole.
-use mathlib.Core.Path.{◌≡◌, refl, ◌∙◌}
-use lib.ListN.{length}
+use mathlib.Core.Path.{refl, ◌∙◌}
 use Rattle.record.specs.Literals.{literal_of}
-use Rattle.record.proofs.Left.{Copies, copies_all, copies_room, copies_on, copies_end}
+use Rattle.record.proofs.Left.{copies_all, copies_room, copies_on, copies_end}
 use Rattle.record.proofs.Literals.{literal_long}
 use native.Mathlib.Omega.{arith}
 use Rattle.record.proofs.put_literals.Goals as goal
@@ -20,12 +19,11 @@ put_literal-p-requires c =
     )
 
 pub loop-left-preserved : goal.loop-left-preserved
-loop-left-preserved c =
-    (
-      c.put_literal-p.auto.out ∙ c.loop-left.invariant.0,
-      copies_on c.loop-left.invariant.1 c.loop-left-test.true
-          c.put_literal-p.ensures,
-    )
+loop-left-preserved c = (
+  c.put_literal-p.auto.out ∙ c.loop-left.invariant.0,
+  copies_on c.loop-left.invariant.1 c.loop-left-test.true
+      c.put_literal-p.ensures,
+)
 
 pub shape_of-out : goal.shape_of-out
 shape_of-out c = c.loop-left.invariant.0

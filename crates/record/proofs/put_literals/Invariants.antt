@@ -1,10 +1,8 @@
 -- What writes the rest makes the whole.
-use mathlib.Core.Path.{◌≡◌, refl, ◌∙◌}
+use mathlib.Core.Path.{◌≡◌}
 use lib.ListN.{length}
 use Rattle.record.specs.Literals.{literal_of}
-use Rattle.record.proofs.Left.{Copies, copies_all, copies_room, copies_on, copies_end}
-use Rattle.record.proofs.Literals.{literal_long}
-use native.Mathlib.Omega.{arith}
+use Rattle.record.proofs.Left.{Copies}
 use Rattle.record.proofs.put_literals.Given as goal
 
 abbrev pub invariant-loop-left : goal.invariant-loop-left

@@ -13,20 +13,19 @@ pub put_le-q-requires : goal.put_le-q-requires
 put_le-q-requires c = (tt, omega (arith, c.requires, struct_front_long c.args.i c.args.n, c.put_mark-p.ensures.end, c.put_mark-p.auto.out))
 
 pub put_le-requires : goal.put_le-requires
-put_le-requires c =
-    (
-      tt,
-      omega (
-        arith,
-        c.requires,
-        struct_front_long c.args.i c.args.n,
-        c.put_mark-p.ensures.end,
-        c.put_mark-p.auto.out,
-        c.put_le-q.ensures.end,
-        c.put_le-q.auto.out,
-        le_len 2 c.args.i,
-      ),
-    )
+put_le-requires c = (
+  tt,
+  omega (
+    arith,
+    c.requires,
+    struct_front_long c.args.i c.args.n,
+    c.put_mark-p.ensures.end,
+    c.put_mark-p.auto.out,
+    c.put_le-q.ensures.end,
+    c.put_le-q.auto.out,
+    le_len 2 c.args.i,
+  ),
+)
 
 pub returns : goal.returns
 unfolding struct_front

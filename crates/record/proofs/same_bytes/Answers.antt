@@ -1,9 +1,7 @@
 -- What is left to compare decides.
 use mathlib.Core.Path.{◌≡◌, refl, sym, ◌∙◌}
-use Prim.Native.Nat.{◌-◌, ◌≤◌}
 use native.Mathlib.Omega.{arith}
-use lib.ListN.{length, drop}
-use Rattle.record.specs.Bytes.{same_bytes}
+use lib.ListN.{length}
 use Rattle.record.proofs.Equal.{other_length, same_on, same_off, same_end}
 use Rattle.record.proofs.same_bytes.Goals as goal
 
@@ -17,13 +15,12 @@ pub returns-then-a-i : goal.returns-then-a-i
 returns-then-a-i c = sym (c.loop-i.invariant.2 ∙ same_off c.args.a.now c.args.b.now c.loop-i.i c.loop-i-test.true (omega arith) c.if-a-i.true)
 
 pub loop-i-preserved : goal.loop-i-preserved
-loop-i-preserved c =
-    (
-      omega arith,
-      c.loop-i.invariant.1,
-      c.loop-i.invariant.2 ∙ same_on c.args.a.now c.args.b.now c.loop-i.i c.loop-i-test.true (omega arith)
-          c.if-a-i.false,
-    )
+loop-i-preserved c = (
+  omega arith,
+  c.loop-i.invariant.1,
+  c.loop-i.invariant.2 ∙ same_on c.args.a.now c.args.b.now c.loop-i.i c.loop-i-test.true (omega arith)
+      c.if-a-i.false,
+)
 
 pub returns : goal.returns
 returns c =

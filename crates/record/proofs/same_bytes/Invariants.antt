@@ -1,10 +1,8 @@
 -- What is left to compare decides.
-use mathlib.Core.Path.{◌≡◌, refl, sym, ◌∙◌}
+use mathlib.Core.Path.{◌≡◌}
 use Prim.Native.Nat.{◌-◌, ◌≤◌}
-use native.Mathlib.Omega.{arith}
 use lib.ListN.{length, drop}
 use Rattle.record.specs.Bytes.{same_bytes}
-use Rattle.record.proofs.Equal.{other_length, same_on, same_off, same_end}
 use Rattle.record.proofs.same_bytes.Given as goal
 
 abbrev pub invariant-loop-i : goal.invariant-loop-i

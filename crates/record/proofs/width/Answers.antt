@@ -7,10 +7,9 @@ use native.Mathlib.Omega.{arith}
 use Rattle.record.proofs.width.Goals as goal
 
 pub returns : goal.returns
-returns c =
-    (
-      c.width.ensures,
-      subst Width (sym c.width.ensures) (width_is c.args.kind),
-      omega
-          (arith, c.width.ensures, few_bytes c.args.kind),
-    )
+returns c = (
+  c.width.ensures,
+  subst Width (sym c.width.ensures) (width_is c.args.kind),
+  omega
+      (arith, c.width.ensures, few_bytes c.args.kind),
+)

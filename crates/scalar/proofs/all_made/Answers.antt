@@ -1,11 +1,8 @@
 -- What is left to look at decides.
 use mathlib.Core.Path.{refl}
-use mathlib.Core.List.{List}
-use Prim.Native.Nat.{◌-◌}
 use native.Mathlib.Omega.{arith}
-use Rattle.conv.specs.Items.{Item, ItemsAt}
 use Rattle.conv.proofs.Walk.{next_item, next_less}
-use Rattle.scalar.proofs.MadeLeft.{Undecided, decide_no, decide_on, decide_end}
+use Rattle.scalar.proofs.MadeLeft.{decide_no, decide_on, decide_end}
 use Rattle.scalar.proofs.all_made.Goals as goal
 
 pub loop-i-init : goal.loop-i-init

@@ -1,16 +1,14 @@
 -- What writes the rest makes the whole.
-use mathlib.Core.Path.{◌≡◌, refl, ◌∙◌}
+use mathlib.Core.Path.{◌≡◌}
 use mathlib.Core.List.{List}
 use Prim.Native.Nat.{◌-◌}
-use native.Mathlib.Omega.{arith}
 use lib.ListN.{length}
 use Rattle.meaning.specs.Kinds.{Kind}
 use Rattle.meaning.specs.Scalars.{Stage}
 use Rattle.meaning.specs.Answers.{ok}
 use Rattle.conv.specs.Items.{Item, ItemsAt}
-use Rattle.scalar.specs.Made.{make_item, make_items, Ctor}
-use Rattle.conv.proofs.Walk.{next_item, next_less, Writing, write_all, write_room, write_on, write_end}
-use Rattle.scalar.proofs.Results.{given_ok, all_given}
+use Rattle.scalar.specs.Made.{make_items, Ctor}
+use Rattle.conv.proofs.Walk.{Writing}
 use Rattle.scalar.proofs.MadeLeft.{made_of}
 use Rattle.scalar.proofs.write_made.Given as goal
 

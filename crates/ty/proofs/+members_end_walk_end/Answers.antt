@@ -2,11 +2,10 @@
 -- 2d for `walk_end` and 2d + 1 for `members_end`.
 use mathlib.Core.Path.{◌≡◌, subst}
 use mathlib.Core.List.{List}
-use Prim.Native.Nat.{ℕ, ◌+◌, ◌*◌, ◌-◌, ◌≤◌, ◌<◌}
+use Prim.Native.Nat.{ℕ, ◌+◌, ◌-◌}
 use native.Mathlib.Omega.{arith}
-use lib.ListN.{length}
 use Rattle.ty.specs.Stands.{Ends, EndAll}
-use Rattle.ty.specs.TypeFronts.{Told, Same, Parted, Fronted}
+use Rattle.ty.specs.TypeFronts.{Told, Parted, Fronted}
 use Rattle.meaning.specs.Trees.{[·]}
 use Rattle.ty.specs.declared.Front.{Front}
 use Rattle.ty.specs.declared.Front.TheVariants.{Array, Struct}

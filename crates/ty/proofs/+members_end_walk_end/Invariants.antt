@@ -1,16 +1,9 @@
 -- `walk_end` calls itself and `members_end` at a depth one less, and `members_end` calls `walk_end` at its own depth:
 -- 2d for `walk_end` and 2d + 1 for `members_end`.
-use mathlib.Core.Path.{◌≡◌, subst}
-use mathlib.Core.List.{List}
-use Prim.Native.Nat.{ℕ, ◌+◌, ◌*◌, ◌-◌, ◌≤◌, ◌<◌}
-use native.Mathlib.Omega.{arith}
+use Prim.Native.Nat.{◌+◌, ◌*◌, ◌≤◌}
 use lib.ListN.{length}
-use Rattle.ty.specs.Stands.{Ends, EndAll}
-use Rattle.ty.specs.TypeFronts.{Told, Same, Parted, Fronted}
-use Rattle.meaning.specs.Trees.{[·]}
-use Rattle.ty.specs.declared.Front.{Front}
-use Rattle.ty.specs.declared.Front.TheVariants.{Array, Struct}
-use Rattle.ty.proofs.Walks.{told_as, same_trans, nil_stands, one_on, none_on}
+use Rattle.ty.specs.Stands.{EndAll}
+use Rattle.ty.specs.TypeFronts.{Same}
 use Rattle.ty.proofs.+members_end_walk_end.Given as goal
 
 abbrev pub decreases-members_end : goal.decreases-members_end

@@ -1,12 +1,9 @@
 -- `walk_len` calls itself and `members_len` at a depth one less, and `members_len` calls `walk_len` at its own depth:
 -- 2d for `walk_len` and 2d + 1 for `members_len`.
 use mathlib.Core.Path.{refl, sym, ◌∙◌}
-use Prim.Native.Nat.{ℕ, ◌+◌, ◌*◌, ◌<◌, ◌^◌}
 use native.Mathlib.Omega.{arith}
-use Rattle.meaning.specs.Trees.{Tys}
-use Rattle.ty.specs.Stands.{StandAll}
 use Rattle.ty.proofs.Heads.{any_front, array_here, struct_here}
-use Rattle.ty.proofs.Lens.{LenLeft, left_first, left_again, left_over, left_long, left_none, scalar_len, vector_len, matrix_len}
+use Rattle.ty.proofs.Lens.{left_first, left_again, left_over, left_long, left_none, scalar_len, vector_len, matrix_len}
 use Rattle.ty.proofs.Lens.{array_len, struct_len}
 use Rattle.ty.proofs.+members_len_walk_len.Goals as goal
 
@@ -34,14 +31,13 @@ members_len-returns-in-TooLong t c =
     c.in-TooLong.is
 
 pub members_len-loop-left-preserved : goal.members_len-loop-left-preserved
-members_len-loop-left-preserved t c =
-    (
-      omega (arith, c.if-m-sum.false),
-      λ m e w.
-          left_again (c.loop-left.invariant.1 m e w) c.loop-left-test.true
-          c.walk_len.ensures
-          c.in-Is.is,
-    )
+members_len-loop-left-preserved t c = (
+  omega (arith, c.if-m-sum.false),
+  λ m e w.
+      left_again (c.loop-left.invariant.1 m e w) c.loop-left-test.true
+      c.walk_len.ensures
+      c.in-Is.is,
+)
 
 pub members_len-returns : goal.members_len-returns
 members_len-returns t c = λ m e w. left_none (c.loop-left.invariant.1 m e w) (omega arith) c.loop-left.invariant.0

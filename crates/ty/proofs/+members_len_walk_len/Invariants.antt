@@ -1,13 +1,9 @@
 -- `walk_len` calls itself and `members_len` at a depth one less, and `members_len` calls `walk_len` at its own depth:
 -- 2d for `walk_len` and 2d + 1 for `members_len`.
-use mathlib.Core.Path.{refl, sym, ◌∙◌}
 use Prim.Native.Nat.{ℕ, ◌+◌, ◌*◌, ◌<◌, ◌^◌}
-use native.Mathlib.Omega.{arith}
 use Rattle.meaning.specs.Trees.{Tys}
 use Rattle.ty.specs.Stands.{StandAll}
-use Rattle.ty.proofs.Heads.{any_front, array_here, struct_here}
-use Rattle.ty.proofs.Lens.{LenLeft, left_first, left_again, left_over, left_long, left_none, scalar_len, vector_len, matrix_len}
-use Rattle.ty.proofs.Lens.{array_len, struct_len}
+use Rattle.ty.proofs.Lens.{LenLeft}
 use Rattle.ty.proofs.+members_len_walk_len.Given as goal
 
 abbrev pub decreases-members_len : goal.decreases-members_len

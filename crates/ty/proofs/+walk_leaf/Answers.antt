@@ -1,6 +1,5 @@
 -- `walk_leaf` calls itself at a depth one less.
 use mathlib.Core.Path.{sym, ◌∙◌}
-use Prim.Native.Nat.{ℕ, ◌<◌}
 use native.Mathlib.Omega.{arith}
 use Rattle.ty.proofs.Heads.{array_here}
 use Rattle.ty.proofs.Leaves.{scalar_leaf, vector_leaf, matrix_leaf, array_leaf, struct_leaf}

@@ -20,17 +20,16 @@ pub put_le-p-requires : goal.put_le-p-requires
 put_le-p-requires c = (tt, simp length-set (omega arith))
 
 pub copy-requires : goal.copy-requires
-copy-requires c =
-    (
-      omega arith,
-      c.requires.stands.within,
-      omega (
-        arith,
-        count_end _ c.put_le-p.ensures,
-        c.put_le-p.auto.out,
-        marked_len c.args.out.now 84 97,
-      ),
-    )
+copy-requires c = (
+  omega arith,
+  c.requires.stands.within,
+  omega (
+    arith,
+    count_end _ c.put_le-p.ensures,
+    c.put_le-p.auto.out,
+    marked_len c.args.out.now 84 97,
+  ),
+)
 
 pub shape_of-out : goal.shape_of-out
 shape_of-out c =

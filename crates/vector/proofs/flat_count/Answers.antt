@@ -1,13 +1,7 @@
 -- As many parts as were counted stand before i, and each takes a byte at least.
-use mathlib.Core.List.{List}
-use Prim.Native.Nat.{◌-◌, ◌≤◌}
 use native.Mathlib.Omega.{arith}
-use lib.ListN.{length}
-use Rattle.meaning.specs.Trees.{Val}
-use Rattle.meaning.specs.Build.{flattened}
-use Rattle.args.specs.Row.{Row}
 use Rattle.args.proofs.ArgumentRows.{args_some, args_less}
-use Rattle.vector.proofs.PartsLeft.{CountLeft, count_on, count_small, count_fits, count_end}
+use Rattle.vector.proofs.PartsLeft.{count_on, count_small, count_fits, count_end}
 use Rattle.vector.proofs.flat_count.Goals as goal
 
 pub loop-i-init : goal.loop-i-init
@@ -34,12 +28,11 @@ loop-i-smaller c =
     )
 
 pub loop-i-preserved : goal.loop-i-preserved
-loop-i-preserved c =
-    (
-      count_small (c.loop-i.invariant.1 c.requires.values c.requires.row) c.loop-i-test.true c.part_count-m.ensures c.loop-i.invariant.0 c.next_arg-i.ensures,
-      λ l x. count_on (c.loop-i.invariant.1 l x) c.loop-i-test.true
-          c.part_count-m.ensures c.next_arg-i.ensures,
-    )
+loop-i-preserved c = (
+  count_small (c.loop-i.invariant.1 c.requires.values c.requires.row) c.loop-i-test.true c.part_count-m.ensures c.loop-i.invariant.0 c.next_arg-i.ensures,
+  λ l x. count_on (c.loop-i.invariant.1 l x) c.loop-i-test.true
+      c.part_count-m.ensures c.next_arg-i.ensures,
+)
 
 pub returns : goal.returns
 returns c = λ l x. count_end (c.loop-i.invariant.1 l x) c.loop-i-test.false

@@ -2,14 +2,11 @@
 use mathlib.Core.Path.{◌≡◌}
 use mathlib.Core.List.{List}
 use Prim.Native.Nat.{ℕ, ◌-◌}
-use native.Mathlib.Omega.{arith}
 use lib.ListN.{length}
 use Rattle.meaning.specs.Kinds.{Kind, kind_no}
 use Rattle.meaning.specs.Trees.{Val}
-use Rattle.record.proofs.Left.{left_all, left_same}
-use Rattle.args.proofs.ArgumentRows.{args_some, args_less}
 use Rattle.vector.specs.VectorRules.{Goes}
-use Rattle.vector.proofs.PartsLeft.{PutLeft, put_room, put_on, put_end}
+use Rattle.vector.proofs.PartsLeft.{PutLeft}
 use Rattle.vector.proofs.put_parts.Given as goal
 
 abbrev pub invariant-loop-i : goal.invariant-loop-i

@@ -7,7 +7,6 @@ use Rattle.scalar.proofs.OneLiteral.{abstract_is, concrete}
 use Rattle.vector.proofs.Args.{arg_front, arg_vector}
 use Rattle.vector.proofs.Writes.{vector_long, whole_room, whole_record}
 use Rattle.vector.proofs.OneToVector.{vec_other_length, vec_abstract, vector_items, made_no, remade, remade_room, remade_put}
-use borrow.Author.Rules.{rules}
 use Rattle.vector.proofs.rebuilt.Goals as goal
 
 pub bounds-args-2 : goal.bounds-args-2

@@ -1,7 +1,6 @@
 -- A scalar's type: the literals decide, then it is written. Another: a literal that does not fit is 10, else it is 12.
 use mathlib.Core.Path.{◌∙◌}
 use native.Mathlib.Omega.{arith}
-use borrow.Author.Tests.{not-true, not-false}
 use Rattle.meaning.specs.Build.{flattened}
 use Rattle.ty.proofs.Heads.{any_front}
 use Rattle.laws.proofs.Each.{some_length}

@@ -1,7 +1,6 @@
 -- The count, the arguments that are neither literals nor vectors, the literals; then it is written.
 use mathlib.Core.Path.{sym, ◌∙◌, subst}
 use lib.Dec.{T}
-use borrow.Author.Tests.{not-true, not-false}
 use Rattle.meaning.specs.Build.{flattened}
 use Rattle.laws.proofs.Each.{some_length}
 use Rattle.error.proofs.BufferAtExit.{builds_as, builds_no, builds_miscount}

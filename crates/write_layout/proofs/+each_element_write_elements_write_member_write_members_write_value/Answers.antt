@@ -1,15 +1,11 @@
 -- `write_value` calls `write_elements` and `write_members` at a depth one less; `write_elements` calls `each_element`,
 -- `write_members` calls `write_member`, and these two call `write_value`, each at its own depth d: 4d for
 -- `write_value`, 4d + 1 for `write_member`, 4d + 2 for the loops, 4d + 3 for `write_elements`.
-use mathlib.Core.Path.{◌≡◌, refl, ◌∙◌}
-use Prim.Native.Nat.{ℕ, ◌+◌, ◌*◌, ◌<◌}
+use mathlib.Core.Path.{refl, ◌∙◌}
 use native.Mathlib.Omega.{arith}
-use lib.ListN.{length}
-use Rattle.meaning.specs.Trees.{Ty, Vals}
 use Rattle.meaning.specs.Layout.{mem_members}
 use Rattle.record.proofs.Left.{left_all}
-use Rattle.write_layout.specs.Memory.{Elements, Members}
-use Rattle.write_layout.proofs.Walks.{EachLeft, each_all, each_room, each_pad, each_on, each_end, AllLeft, all_here, all_pad}
+use Rattle.write_layout.proofs.Walks.{each_all, each_room, each_pad, each_on, each_end, all_here, all_pad}
 use Rattle.write_layout.proofs.Walks.{all_room, all_on, all_end}
 use Rattle.write_layout.proofs.Arms.{value_stands, table_here, scalar_room, scalar_type, vector_here, vector_room, vector_type}
 use Rattle.write_layout.proofs.Arms.{matrix_here, matrix_room, matrix_type}
@@ -23,12 +19,11 @@ pub each_element-loop-left-init : goal.each_element-loop-left-init
 each_element-loop-left-init t c = (refl, λ q e u l x. each_all x c.args.out.now c.args.to)
 
 pub each_element-write_value-w-requires : goal.each_element-write_value-w-requires
-each_element-write_value-w-requires t c =
-    (
-      omega (arith, c.decreases),
-      each_room c.requires.are
-          (c.loop-left.invariant.1 c.requires.ty_end c.requires.end c.requires.type c.requires.values c.requires.are) c.loop-left-test.true (omega (arith, c.requires.room, c.loop-left.invariant.0)),
-    )
+each_element-write_value-w-requires t c = (
+  omega (arith, c.decreases),
+  each_room c.requires.are
+      (c.loop-left.invariant.1 c.requires.ty_end c.requires.end c.requires.type c.requires.values c.requires.are) c.loop-left-test.true (omega (arith, c.requires.room, c.loop-left.invariant.0)),
+)
 
 pub each_element-put_zeros-p-requires : goal.each_element-put_zeros-p-requires
 each_element-put_zeros-p-requires t c =
@@ -37,13 +32,12 @@ each_element-put_zeros-p-requires t c =
     (omega (arith, c.requires.room, c.loop-left.invariant.0, c.write_value-w.auto.out))
 
 pub each_element-loop-left-preserved : goal.each_element-loop-left-preserved
-each_element-loop-left-preserved t c =
-    (
-      c.put_zeros-p.auto.out ∙ (c.write_value-w.auto.out
-          ∙ c.loop-left.invariant.0),
-      λ q e u l x. each_on x (c.loop-left.invariant.1 q e u l x) c.loop-left-test.true
-          c.write_value-w.ensures c.put_zeros-p.ensures,
-    )
+each_element-loop-left-preserved t c = (
+  c.put_zeros-p.auto.out ∙ (c.write_value-w.auto.out
+      ∙ c.loop-left.invariant.0),
+  λ q e u l x. each_on x (c.loop-left.invariant.1 q e u l x) c.loop-left-test.true
+      c.write_value-w.ensures c.put_zeros-p.ensures,
+)
 
 pub each_element-shape_of-out : goal.each_element-shape_of-out
 each_element-shape_of-out t c = c.loop-left.invariant.0
@@ -97,11 +91,10 @@ write_elements-returns-in-Vector t c =
     c.write_columns-w.ensures
 
 pub write_elements-each_element-requires : goal.write_elements-each_element-requires
-write_elements-each_element-requires t c =
-    (
-      omega (arith, c.decreases),
-      c.requires,
-    )
+write_elements-each_element-requires t c = (
+  omega (arith, c.decreases),
+  c.requires,
+)
 
 pub write_elements-shape_of-out : goal.write_elements-shape_of-out
 write_elements-shape_of-out t c = c.each_element.auto.out
@@ -163,11 +156,10 @@ write_member-returns-in-Vector t c =
     c.in-Vector.is (search) c.write_literals-w-in-Vector.ensures
 
 pub write_member-write_value-requires : goal.write_member-write_value-requires
-write_member-write_value-requires t c =
-    (
-      omega (arith, c.decreases),
-      c.requires,
-    )
+write_member-write_value-requires t c = (
+  omega (arith, c.decreases),
+  c.requires,
+)
 
 pub write_member-shape_of-out : goal.write_member-shape_of-out
 write_member-shape_of-out t c = c.write_value.auto.out
@@ -192,23 +184,21 @@ pub write_members-put_zeros-start-requires : goal.write_members-put_zeros-start-
 write_members-put_zeros-start-requires t c = all_pad (c.loop-left.invariant.1 c.requires.ty_end c.requires.end c.requires.off c.requires.values c.requires.are) c.loop-left-test.true (omega (arith, c.requires.room, c.loop-left.invariant.0))
 
 pub write_members-write_member-w-requires : goal.write_members-write_member-w-requires
-write_members-write_member-w-requires t c =
-    (
-      omega (arith, c.decreases),
-      all_room
-          (c.loop-left.invariant.1 c.requires.ty_end c.requires.end c.requires.off c.requires.values c.requires.are) c.loop-left-test.true
-          c.put_zeros-start.ensures (omega (arith, c.requires.room, c.loop-left.invariant.0, c.put_zeros-start.auto.out)),
-    )
+write_members-write_member-w-requires t c = (
+  omega (arith, c.decreases),
+  all_room
+      (c.loop-left.invariant.1 c.requires.ty_end c.requires.end c.requires.off c.requires.values c.requires.are) c.loop-left-test.true
+      c.put_zeros-start.ensures (omega (arith, c.requires.room, c.loop-left.invariant.0, c.put_zeros-start.auto.out)),
+)
 
 pub write_members-loop-left-preserved : goal.write_members-loop-left-preserved
-write_members-loop-left-preserved t c =
-    (
-      c.write_member-w.auto.out ∙
-          (c.put_zeros-start.auto.out ∙ c.loop-left.invariant.0),
-      λ q e off l x. all_on (c.loop-left.invariant.1 q e off l x)
-          c.loop-left-test.true
-          c.put_zeros-start.ensures c.write_member-w.ensures,
-    )
+write_members-loop-left-preserved t c = (
+  c.write_member-w.auto.out ∙
+      (c.put_zeros-start.auto.out ∙ c.loop-left.invariant.0),
+  λ q e off l x. all_on (c.loop-left.invariant.1 q e off l x)
+      c.loop-left-test.true
+      c.put_zeros-start.ensures c.write_member-w.ensures,
+)
 
 pub write_members-shape_of-out : goal.write_members-shape_of-out
 write_members-shape_of-out t c = c.loop-left.invariant.0

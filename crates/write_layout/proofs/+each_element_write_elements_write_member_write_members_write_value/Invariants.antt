@@ -1,22 +1,12 @@
 -- `write_value` calls `write_elements` and `write_members` at a depth one less; `write_elements` calls `each_element`,
 -- `write_members` calls `write_member`, and these two call `write_value`, each at its own depth d: 4d for
 -- `write_value`, 4d + 1 for `write_member`, 4d + 2 for the loops, 4d + 3 for `write_elements`.
-use mathlib.Core.Path.{◌≡◌, refl, ◌∙◌}
-use Prim.Native.Nat.{ℕ, ◌+◌, ◌*◌, ◌<◌}
-use native.Mathlib.Omega.{arith}
+use mathlib.Core.Path.{◌≡◌}
+use Prim.Native.Nat.{ℕ, ◌+◌, ◌*◌}
 use lib.ListN.{length}
 use Rattle.meaning.specs.Trees.{Ty, Vals}
-use Rattle.meaning.specs.Layout.{mem_members}
-use Rattle.record.proofs.Left.{left_all}
 use Rattle.write_layout.specs.Memory.{Elements, Members}
-use Rattle.write_layout.proofs.Walks.{EachLeft, each_all, each_room, each_pad, each_on, each_end, AllLeft, all_here, all_pad}
-use Rattle.write_layout.proofs.Walks.{all_room, all_on, all_end}
-use Rattle.write_layout.proofs.Arms.{value_stands, table_here, scalar_room, scalar_type, vector_here, vector_room, vector_type}
-use Rattle.write_layout.proofs.Arms.{matrix_here, matrix_room, matrix_type}
-use Rattle.write_layout.proofs.Arms.{array_here, array_type, array_deep, array_room, struct_here, struct_type, struct_deep}
-use Rattle.write_layout.proofs.Arms.{struct_room, struct_pad}
-use Rattle.write_layout.proofs.Arms.{scalar_done, vector_done, matrix_done, array_done, struct_done, elements_stand, scalars_room}
-use Rattle.write_layout.proofs.Arms.{scalars_type, vectors_room, vectors_type, scalars_done, vectors_done}
+use Rattle.write_layout.proofs.Walks.{EachLeft, AllLeft}
 use Rattle.write_layout.proofs.+each_element_write_elements_write_member_write_members_write_value.Given as goal
 
 abbrev pub decreases-each_element : goal.decreases-each_element

@@ -1,9 +1,8 @@
 -- What writes the rest makes the whole: so many times a zero byte.
-use mathlib.Core.Path.{◌≡◌, refl, ◌∙◌}
+use mathlib.Core.Path.{refl, ◌∙◌}
 use mathlib.Core.List.{[], ◌∷◌}
 use native.Mathlib.Omega.{arith}
-use lib.ListN.{length}
-use Rattle.record.proofs.Left.{Copies, copies_all, copies_room, copies_on, copies_end}
+use Rattle.record.proofs.Left.{copies_all, copies_room, copies_on, copies_end}
 use Rattle.write_layout.proofs.Parts.{zeros_times}
 use Rattle.write_layout.proofs.put_zeros.Goals as goal
 
@@ -16,12 +15,11 @@ put_byte-p-requires c =
     (omega (arith, rw zeros_times at c.requires, c.loop-left.invariant.0))
 
 pub loop-left-preserved : goal.loop-left-preserved
-loop-left-preserved c =
-    (
-      c.put_byte-p.auto.out ∙ c.loop-left.invariant.0,
-      copies_on c.loop-left.invariant.1 c.loop-left-test.true
-          c.put_byte-p.ensures,
-    )
+loop-left-preserved c = (
+  c.put_byte-p.auto.out ∙ c.loop-left.invariant.0,
+  copies_on c.loop-left.invariant.1 c.loop-left-test.true
+      c.put_byte-p.ensures,
+)
 
 pub shape_of-out : goal.shape_of-out
 shape_of-out c = c.loop-left.invariant.0

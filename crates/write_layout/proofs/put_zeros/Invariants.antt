@@ -1,10 +1,8 @@
 -- What writes the rest makes the whole: so many times a zero byte.
-use mathlib.Core.Path.{◌≡◌, refl, ◌∙◌}
+use mathlib.Core.Path.{◌≡◌}
 use mathlib.Core.List.{[], ◌∷◌}
-use native.Mathlib.Omega.{arith}
 use lib.ListN.{length}
-use Rattle.record.proofs.Left.{Copies, copies_all, copies_room, copies_on, copies_end}
-use Rattle.write_layout.proofs.Parts.{zeros_times}
+use Rattle.record.proofs.Left.{Copies}
 use Rattle.write_layout.proofs.put_zeros.Given as goal
 
 abbrev pub invariant-loop-left : goal.invariant-loop-left

@@ -1,14 +1,11 @@
 -- What writes the rest of the scalars makes the whole, and the rest of the literals stands where the loop has come to.
-use mathlib.Core.Path.{◌≡◌, refl, ◌∙◌}
+use mathlib.Core.Path.{◌≡◌}
 use mathlib.Core.List.{List}
 use Prim.Native.Nat.{ℕ}
-use native.Mathlib.Omega.{arith}
 use lib.ListN.{length}
 use Rattle.meaning.specs.Kinds.{Kind}
-use Rattle.meaning.specs.Layout.{mem_vec}
-use Rattle.record.proofs.Left.{left_all}
 use Rattle.write_layout.specs.Memory.{Literals}
-use Rattle.write_layout.proofs.Literals.{LiteralsLeft, literal_here, literal_room, literal_on, literals_end}
+use Rattle.write_layout.proofs.Literals.{LiteralsLeft}
 use Rattle.write_layout.proofs.write_literals.Given as goal
 
 abbrev pub invariant-loop-left : goal.invariant-loop-left

@@ -1,42 +1,36 @@
 -- `write_zero` calls `put_zero_elements` and `put_zero_members` at a depth one less, and both call it at their own
 -- depth: 2d for `write_zero` and 2d + 1 for the others.
-use mathlib.Core.Path.{◌≡◌, refl, sym, ◌∙◌}
-use Prim.Native.Nat.{ℕ, ◌+◌, ◌*◌, ◌<◌}
+use mathlib.Core.Path.{refl, sym, ◌∙◌}
 use native.Mathlib.Omega.{arith}
-use lib.ListN.{length}
-use Rattle.meaning.specs.Trees.{Ty, Tys, zero_of, zeros_of}
+use Rattle.meaning.specs.Trees.{zero_of, zeros_of}
 use Rattle.meaning.specs.Records.{val_bytes, vals_bytes}
-use Rattle.ty.specs.Stands.{Stands, StandAll}
 use Rattle.record.proofs.Left.{left_all, copies_all}
 use Rattle.zero.proofs.Zeros.{room_stands, scalar_zero_is, vector_zero_is, matrix_zero_is, whole_done, array_done, struct_done}
 use Rattle.zero.proofs.Zeros.{scalar_room, vector_room, matrix_room, array_room, array_deep, array_parts, struct_room}
 use Rattle.zero.proofs.Zeros.{struct_deep, struct_parts}
-use Rattle.zero.proofs.Zeros.{EachLeft, each_room, each_on, each_end, AllLeft, all_room, all_on, all_end}
+use Rattle.zero.proofs.Zeros.{each_room, each_on, each_end, all_room, all_on, all_end}
 use Rattle.zero.proofs.+put_zero_elements_put_zero_members_write_zero.Goals as goal
 
 pub put_zero_elements-loop-elements-init : goal.put_zero_elements-loop-elements-init
-put_zero_elements-loop-elements-init t c =
-    (
-      refl,
-      λ u e w.
-          record { after = λ h. absurd (omega arith); rest = copies_all (val_bytes (zero_of u)) c.args.n c.args.out.now c.args.to },
-    )
+put_zero_elements-loop-elements-init t c = (
+  refl,
+  λ u e w.
+      record { after = λ h. absurd (omega arith); rest = copies_all (val_bytes (zero_of u)) c.args.n c.args.out.now c.args.to },
+)
 
 pub put_zero_elements-write_zero-w-requires : goal.put_zero_elements-write_zero-w-requires
-put_zero_elements-write_zero-w-requires t c =
-    (
-      omega (arith, c.decreases),
-      each_room c.requires.stands (c.loop-elements.invariant.1 c.requires.type c.requires.end c.requires.stands)
-          (omega (arith, c.loop-elements-test.true)) (omega (arith, c.requires.room, c.loop-elements.invariant.0)),
-    )
+put_zero_elements-write_zero-w-requires t c = (
+  omega (arith, c.decreases),
+  each_room c.requires.stands (c.loop-elements.invariant.1 c.requires.type c.requires.end c.requires.stands)
+      (omega (arith, c.loop-elements-test.true)) (omega (arith, c.requires.room, c.loop-elements.invariant.0)),
+)
 
 pub put_zero_elements-loop-elements-preserved : goal.put_zero_elements-loop-elements-preserved
-put_zero_elements-loop-elements-preserved t c =
-    (
-      c.write_zero-w.auto.out ∙ c.loop-elements.invariant.0,
-      λ u e w. each_on w (c.loop-elements.invariant.1 u e w)
-          (omega (arith, c.loop-elements-test.true)) c.write_zero-w.ensures,
-    )
+put_zero_elements-loop-elements-preserved t c = (
+  c.write_zero-w.auto.out ∙ c.loop-elements.invariant.0,
+  λ u e w. each_on w (c.loop-elements.invariant.1 u e w)
+      (omega (arith, c.loop-elements-test.true)) c.write_zero-w.ensures,
+)
 
 pub put_zero_elements-shape_of-out : goal.put_zero_elements-shape_of-out
 put_zero_elements-shape_of-out t c = c.loop-elements.invariant.0
@@ -45,28 +39,25 @@ pub put_zero_elements-returns : goal.put_zero_elements-returns
 put_zero_elements-returns t c = λ u e w. each_end w (c.loop-elements.invariant.1 u e w) c.requires.some (omega arith)
 
 pub put_zero_members-loop-members-init : goal.put_zero_members-loop-members-init
-put_zero_members-loop-members-init t c =
-    (
-      refl,
-      λ m e w.
-          record { types = m; stands = w; rest = left_all c.args.out.now c.args.to (vals_bytes (zeros_of m)) },
-    )
+put_zero_members-loop-members-init t c = (
+  refl,
+  λ m e w.
+      record { types = m; stands = w; rest = left_all c.args.out.now c.args.to (vals_bytes (zeros_of m)) },
+)
 
 pub put_zero_members-write_zero-w-requires : goal.put_zero_members-write_zero-w-requires
-put_zero_members-write_zero-w-requires t c =
-    (
-      omega (arith, c.decreases),
-      all_room (c.loop-members.invariant.1 c.requires.types c.requires.end c.requires.stands)
-          c.loop-members-test.true (omega (arith, c.requires.room, c.loop-members.invariant.0)),
-    )
+put_zero_members-write_zero-w-requires t c = (
+  omega (arith, c.decreases),
+  all_room (c.loop-members.invariant.1 c.requires.types c.requires.end c.requires.stands)
+      c.loop-members-test.true (omega (arith, c.requires.room, c.loop-members.invariant.0)),
+)
 
 pub put_zero_members-loop-members-preserved : goal.put_zero_members-loop-members-preserved
-put_zero_members-loop-members-preserved t c =
-    (
-      c.write_zero-w.auto.out ∙ c.loop-members.invariant.0,
-      λ m e w. all_on (c.loop-members.invariant.1 m e w)
-          c.loop-members-test.true c.write_zero-w.ensures,
-    )
+put_zero_members-loop-members-preserved t c = (
+  c.write_zero-w.auto.out ∙ c.loop-members.invariant.0,
+  λ m e w. all_on (c.loop-members.invariant.1 m e w)
+      c.loop-members-test.true c.write_zero-w.ensures,
+)
 
 pub put_zero_members-shape_of-out : goal.put_zero_members-shape_of-out
 put_zero_members-shape_of-out t c = c.loop-members.invariant.0
@@ -93,12 +84,11 @@ pub write_zero-overflow_sub-depth : goal.write_zero-overflow_sub-depth
 write_zero-overflow_sub-depth t c = search array_deep
 
 pub write_zero-put_zero_elements-requires : goal.write_zero-put_zero_elements-requires
-write_zero-put_zero_elements-requires t c =
-    (
-      omega (arith, array_deep c.requires c.head_at.ensures c.in-Array.is),
-      array_parts c.requires c.head_at.ensures c.in-Array.is c.put_array-p.ensures
-          c.put_array-p.auto.out,
-    )
+write_zero-put_zero_elements-requires t c = (
+  omega (arith, array_deep c.requires c.head_at.ensures c.in-Array.is),
+  array_parts c.requires c.head_at.ensures c.in-Array.is c.put_array-p.ensures
+      c.put_array-p.auto.out,
+)
 
 pub write_zero-put_struct-p-requires : goal.write_zero-put_struct-p-requires
 write_zero-put_struct-p-requires t c = search struct_room
@@ -107,12 +97,11 @@ pub write_zero-overflow_sub-depth-in-Struct : goal.write_zero-overflow_sub-depth
 write_zero-overflow_sub-depth-in-Struct t c = search struct_deep
 
 pub write_zero-put_zero_members-requires : goal.write_zero-put_zero_members-requires
-write_zero-put_zero_members-requires t c =
-    (
-      omega (arith, struct_deep c.requires c.head_at.ensures c.in-Struct.is),
-      struct_parts c.requires c.head_at.ensures c.in-Struct.is c.put_struct-p.ensures
-          c.put_struct-p.auto.out,
-    )
+write_zero-put_zero_members-requires t c = (
+  omega (arith, struct_deep c.requires c.head_at.ensures c.in-Struct.is),
+  struct_parts c.requires c.head_at.ensures c.in-Struct.is c.put_struct-p.ensures
+      c.put_struct-p.auto.out,
+)
 
 pub write_zero-shape_of-out-in-Scalar : goal.write_zero-shape_of-out-in-Scalar
 write_zero-shape_of-out-in-Scalar t c = c.put_zero-p.auto.out

@@ -1,9 +1,8 @@
 -- What writes the rest makes the whole.
-use mathlib.Core.Path.{◌≡◌, refl, ◌∙◌}
+use mathlib.Core.Path.{refl, ◌∙◌}
 use native.Mathlib.Omega.{arith}
-use lib.ListN.{length}
 use Rattle.zero.specs.Zeros.{vector_of}
-use Rattle.record.proofs.Left.{Copies, copies_all, copies_room, copies_on, copies_end}
+use Rattle.record.proofs.Left.{copies_all, copies_room, copies_on, copies_end}
 use Rattle.zero.proofs.put_zero_columns.Goals as goal
 
 pub loop-left-init : goal.loop-left-init
@@ -15,12 +14,11 @@ put_vector-p-requires c =
     (omega (arith, c.requires, c.loop-left.invariant.0))
 
 pub loop-left-preserved : goal.loop-left-preserved
-loop-left-preserved c =
-    (
-      c.put_vector-p.auto.out ∙ c.loop-left.invariant.0,
-      copies_on c.loop-left.invariant.1 c.loop-left-test.true
-          c.put_vector-p.ensures,
-    )
+loop-left-preserved c = (
+  c.put_vector-p.auto.out ∙ c.loop-left.invariant.0,
+  copies_on c.loop-left.invariant.1 c.loop-left-test.true
+      c.put_vector-p.ensures,
+)
 
 pub shape_of-out : goal.shape_of-out
 shape_of-out c = c.loop-left.invariant.0

@@ -1,9 +1,8 @@
 -- What writes the rest makes the whole.
-use mathlib.Core.Path.{◌≡◌, refl, ◌∙◌}
-use native.Mathlib.Omega.{arith}
+use mathlib.Core.Path.{◌≡◌}
 use lib.ListN.{length}
 use Rattle.zero.specs.Zeros.{vector_of}
-use Rattle.record.proofs.Left.{Copies, copies_all, copies_room, copies_on, copies_end}
+use Rattle.record.proofs.Left.{Copies}
 use Rattle.zero.proofs.put_zero_columns.Given as goal
 
 abbrev pub invariant-loop-left : goal.invariant-loop-left
