@@ -46,9 +46,10 @@ fn print(rt: &impl Print, input: &[u8], text: &[u8]) -> io::Result<()>
 
 // One byte more than a call may have is asked for, so that a longer input is seen to be longer.
 fn main(rt: HostRuntime) -> io::Result<()> {
-    let mut input = Vec::new(rt.alloc());
-    rt.stdin().take(65537).read_to_end(&mut input)?;
+    let mut bytes = Vec::new(rt.alloc());
+    rt.stdin().take(65537).read_to_end(&mut bytes)?;
+    let input = bytes.as_slice();
     let mut out = [0u8; 131200];
-    let r = run(&input, &mut out);
-    print(&rt, &input, &out[..r])
+    let r = run(input, &mut out);
+    print(&rt, input, &out[..r])
 }
