@@ -59,7 +59,7 @@ def main():
     own = {os.path.basename(p) for p in glob.glob('crates/*') if os.path.isdir(p)}
     texts = {f: open(f).read() for f in files('crates/*/specs/**/*.antt', 'crates/*/proofs/**/*.antt', 'crates/*/src/**/*.rt')}
     # proof files of single functions hold goals' names of the toolchain: what they define stays
-    per_fn = {f for f in texts if '/proofs/' in f and os.path.basename(f) in ('Proof.antt', 'Answers.antt', 'Invariants.antt')}
+    per_fn = {f for f in texts if re.search(r'/proofs/.+/(Proof|Answers|Invariants)\.antt$', f)}
     names, lemma = set(), set()
     for f, t in texts.items():
         if f.endswith('.antt') and f not in per_fn:

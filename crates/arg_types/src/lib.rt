@@ -12,7 +12,7 @@ use shape::Found;
 use ty::{Head, Limit};
 
 // One argument where a matrix is asked for: one of the size, and its kind; another matrix; or no matrix.
-#[derive(Drop)]
+#[derive(Clone, Copy)]
 pub enum Single {
     Like(u8),
     Unlike,

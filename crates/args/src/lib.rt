@@ -18,14 +18,14 @@ use ty::{Head, Limit, Target, TypeEnd};
 // ---- how many
 
 // How many arguments there are, or that they are malformed.
-#[derive(Drop)]
+#[derive(Clone, Copy)]
 pub enum Args {
     Count(usize),
     Bad,
 }
 
 // How many arguments were counted, and where the last of them ends.
-#[derive(Drop)]
+#[derive(Clone, Copy)]
 struct Counted {
     end: usize,
     count: usize,
@@ -212,7 +212,7 @@ pub fn type_args(s: &[u8], found: Target) -> Args
 // ---- one after another
 
 // Where an argument ends, and where the record of its type does.
-#[derive(Drop)]
+#[derive(Clone, Copy)]
 pub struct Step {
     pub end: usize,
     pub ty: usize,
@@ -272,7 +272,7 @@ pub fn next_type(args: &[u8], i: usize, ty: &mut [u8]) -> Step
 // ---- one value alone
 
 // The bytes are one value, whose type's record was written and ends there; or they are not.
-#[derive(Drop)]
+#[derive(Clone, Copy)]
 pub enum Single {
     Of(usize),
     Bad,

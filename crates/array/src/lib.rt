@@ -13,7 +13,7 @@ use error::{Refusal, Written};
 use ty::{Len, Limit};
 
 // Where an argument that converts to its member's type ends, and where the record of that type does; or that it does not convert.
-#[derive(Drop)]
+#[derive(Clone, Copy)]
 enum Member {
     Ends(usize, usize),
     Unfit,

@@ -10,7 +10,7 @@ use error::{Answer, Refusal};
 
 // A part of the lent slice: where it starts, and how many bytes it has.
 #[repr(C)]
-#[derive(Drop)]
+#[derive(Clone, Copy)]
 pub struct Part {
     pub start: usize,
     pub len: usize,
@@ -20,7 +20,7 @@ pub struct Part {
 // what `call_ctor` answers, in numbers, and where its record begins in the result buffer (a refused job's is where the
 // next record may begin).
 #[repr(C)]
-#[derive(Drop)]
+#[derive(Clone, Copy)]
 pub struct Job {
     pub target: Part,
     pub args: Part,
@@ -30,13 +30,13 @@ pub struct Job {
 }
 
 // A job that was done, and where the next record may begin.
-#[derive(Drop)]
+#[derive(Clone, Copy)]
 struct Step {
     job: Job,
     next: usize,
 }
 
-#[derive(Drop)]
+#[derive(Clone, Copy)]
 struct Limit;
 
 impl Limit {

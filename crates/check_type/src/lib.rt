@@ -17,7 +17,7 @@ use shape::{Found, Shape};
 use ty::{Head, Limit};
 
 // What a rule says of the arguments: they pass, or the number of the refusal, or 8 with the count wanted and the count given.
-#[derive(Drop)]
+#[derive(Clone, Copy)]
 pub enum Checked {
     Passed,
     Refused(u8),

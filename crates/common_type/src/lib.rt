@@ -15,14 +15,14 @@ use shape::Found;
 use ty::Limit;
 
 // The common type, whose record was written and ends there; or there is none.
-#[derive(Drop)]
+#[derive(Clone, Copy)]
 pub enum Common {
     Of(usize),
     Never,
 }
 
 // Where an argument ends, and where the record of the type that it brings begins and ends.
-#[derive(Drop)]
+#[derive(Clone, Copy)]
 struct Part {
     end: usize,
     from: usize,

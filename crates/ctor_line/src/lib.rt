@@ -14,7 +14,7 @@ use error::{Refusal, Written};
 use record::{join, put_byte, put_pair, put_three, size};
 
 // The standard input of the program: a call whose target has that many bytes, or none.
-#[derive(Drop)]
+#[derive(Clone, Copy)]
 pub enum Input {
     Call(usize),
     Bad,

@@ -11,7 +11,7 @@ use ty::Limit;
 
 // The front of a value's record: a scalar's kind; a vector's length and kind; a matrix's columns, rows and kind; an
 // array's count; a struct's identity and member count.
-#[derive(Drop)]
+#[derive(Clone, Copy)]
 pub enum Front {
     Scalar(u8),
     Vector(u8, u8),

@@ -7,7 +7,7 @@ ghost use Rattle.error.specs.Numbers.{numbers, in_numbers};
 ghost use Rattle.error.specs.Hand.{handed};
 
 // The refusals of documents 01 and 02, by their numbers, each with its words. The numbers are written once, here.
-#[derive(Drop)]
+#[derive(Clone, Copy)]
 pub struct Refusal;
 
 impl Refusal {
@@ -80,7 +80,7 @@ impl Refusal {
 
 // The answer of an entry that writes a record: the record's length, the number of the refusal, or 8 with the count
 // wanted and the count given.
-#[derive(Drop)]
+#[derive(Clone, Copy)]
 pub enum Written {
     Record(usize),
     Refused(u8),
@@ -90,7 +90,7 @@ pub enum Written {
 // An answer in numbers, as C takes it: the number of the refusal, or 0; the record's length, or the rank; and for the
 // refusal 8 the count wanted and the count given.
 #[repr(C)]
-#[derive(Drop)]
+#[derive(Clone, Copy)]
 pub struct Answer {
     pub refusal: u64,
     pub value: u64,

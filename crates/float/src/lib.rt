@@ -14,7 +14,7 @@ ghost use Rattle.float.specs.Taken.{meaning, exponent, Stands, Layout};
 
 // An exact number taken apart: Fin(s, m, e) is m * 2 ^ e * 2 ^ -1074, negative where s is true. Every float of the
 // three formats is one, and every integer of 64 bits.
-#[derive(Drop)]
+#[derive(Clone, Copy)]
 pub enum Parts {
     Nan,
     Inf(bool),

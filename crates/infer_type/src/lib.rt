@@ -15,7 +15,7 @@ use shape::{Found, Shape};
 use ty::{Head, Limit};
 
 // What the rule of a shape says of the arguments: the kind of the type that it names, or the refusal.
-#[derive(Drop)]
+#[derive(Clone, Copy)]
 pub enum Named {
     Of(u8),
     Refused(u8),

@@ -42,11 +42,11 @@ says_pair X Q (At e) q h i = (h, i)
 says_pair X Q Bad q h i = h
 
 -- a test that was asked for its opposite
-pub holds : {P : Type 0} (r : Bool) → Decides P r → not r ≡ false → P
-holds r h q = decided h (not-false r q)
+pub holds : {P : Type 0} (r : Bool) → Decides P r → r ≡ true → P
+holds r h q = decided h q
 
-pub fails : {P : Type 0} (r : Bool) → Decides P r → not r ≡ true → P → ⊥
-fails r h q = refuted h (not-true r q)
+pub fails : {P : Type 0} (r : Bool) → Decides P r → r ≡ false → P → ⊥
+fails r h q = refuted h q
 
 -- ---- the types of n equal parts
 

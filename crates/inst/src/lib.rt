@@ -15,14 +15,14 @@ ghost use Rattle.inst.specs.Reading.{ReadAll};
 use ty::Head;
 
 // Where a value's record ends.
-#[derive(Drop)]
+#[derive(Clone, Copy)]
 pub enum ValueEnd {
     At(usize),
     Bad,
 }
 
 // Where a value's record ends and where the record of its type does; or that there is no such value.
-#[derive(Drop)]
+#[derive(Clone, Copy)]
 pub enum Derived {
     Ends(usize, usize),
     Unfit,

@@ -7,7 +7,7 @@ ghost use Rattle.meaning.specs.Layout.{laid_kind, scalar_size};
 ghost use Rattle.kind.specs.Ends.{numbered, tested, known, low, high};
 
 // A scalar kind by its number in a record. A number over 6 is no kind's; each function answers it too.
-#[derive(Drop)]
+#[derive(Clone, Copy)]
 pub struct Scalar {
     pub kind: u8,
 }

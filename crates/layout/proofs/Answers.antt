@@ -25,18 +25,18 @@ use Rattle.layout.proofs.Extents.{is_extent, long_extent}
 -- ---- of a type
 
 module _ (t : Ty) {b : Bool} (h : b ≡ has_layout t) where
-  pub none-laid : not b ≡ true → paper (Refused 25) ≡ layout_read t
+  pub none_laid : not b ≡ true → paper (Refused 25) ≡ layout_read t
   unfolding paper layout_read laid_type
-  none-laid q = rw (← h, not-true b q)
+  none_laid q = rw (← h, not-true b q)
 
   module _ (q : not b ≡ false) {x : Extent} (e : ℕ) (y : x ≡ extent_of e (size_of t) (align_of t)) where
-    pub long-laid : x ≡ TooLong → paper (Refused 22) ≡ layout_read t
+    pub long_laid : x ≡ TooLong → paper (Refused 22) ≡ layout_read t
     unfolding paper layout_read laid_type
-    long-laid k = rw (← h, not-false b q, le-ltb (size_of t) (2 ^ 64) (long_extent e (size_of t) (align_of t) (sym k ∙ y)))
+    long_laid k = rw (← h, not-false b q, le-ltb (size_of t) (2 ^ 64) (long_extent e (size_of t) (align_of t) (sym k ∙ y)))
 
-    pub size-laid : {e₁ n a v : ℕ} → x ≡ Is e₁ n a → v ≡ a → paper (Layout n v) ≡ layout_read t
+    pub size_laid : {e₁ n a v : ℕ} → x ≡ Is e₁ n a → v ≡ a → paper (Layout n v) ≡ layout_read t
     unfolding paper layout_read laid_type
-    size-laid k i =
+    size_laid k i =
         let z = is_extent e (size_of t) (align_of t) (sym k ∙ y) in
         rw (← h, not-false b q, lt-ltb (size_of t) (2 ^ 64) z.fits, i, z.size, z.align)
 

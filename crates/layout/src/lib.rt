@@ -15,27 +15,27 @@ use kind::Scalar;
 use ty::{Head, Limit, Target, TypeEnd};
 
 // The answer of the entry `layout_of`: size and alignment, or the number of the refusal.
-#[derive(Drop)]
+#[derive(Clone, Copy)]
 pub enum Laid {
     Layout(usize, usize),
     Refused(u8),
 }
 
 // Where a type's record ends, and the size and the alignment of the type; or that its size is past 64 bits.
-#[derive(Drop)]
+#[derive(Clone, Copy)]
 pub enum Extent {
     Is(usize, usize, u8),
     TooLong,
 }
 
 // Where a member ends, or that this is past 64 bits.
-#[derive(Drop)]
+#[derive(Clone, Copy)]
 enum Past {
     At(usize),
     TooLong,
 }
 
-#[derive(Drop)]
+#[derive(Clone, Copy)]
 struct Most;
 
 impl Most {

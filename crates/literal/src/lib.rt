@@ -21,14 +21,14 @@ use float::Parts;
 use kind::Scalar;
 
 // A literal converted without a constructor: its payload, or that it does not fit.
-#[derive(Drop)]
+#[derive(Clone, Copy)]
 pub enum Converted {
     To(u64),
     Unfit,
 }
 
 // What a scalar constructor makes of a literal: the payload; or a refusal. `paper` gives each its number.
-#[derive(Drop)]
+#[derive(Clone, Copy)]
 pub enum Made {
     Of(u64),
     NoTarget,
@@ -39,7 +39,7 @@ pub enum Made {
 }
 
 // The stage of an evaluation (`ShaderStage` of the source), by its number. The numbers are written once, here.
-#[derive(Drop)]
+#[derive(Clone, Copy)]
 pub struct Stage;
 
 impl Stage {
@@ -51,20 +51,20 @@ impl Stage {
 }
 
 // What the stage decides, read once where a call comes in: `checked`, whether f32 and f16 refuse a number outside their range (21).
-#[derive(Drop)]
+#[derive(Clone, Copy)]
 pub struct Rules {
     pub checked: bool,
 }
 
 // The rules at a stage, or that there is no such stage.
-#[derive(Drop)]
+#[derive(Clone, Copy)]
 pub enum Staged {
     At(Rules),
     Never,
 }
 
 // A whole number by its sign and its magnitude.
-#[derive(Drop)]
+#[derive(Clone, Copy)]
 struct Whole {
     negative: bool,
     magnitude: u64,

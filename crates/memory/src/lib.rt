@@ -9,14 +9,14 @@ ghost use Rattle.memory.specs.Sizes.{size_no};
 use kind::Scalar;
 
 // Where what is read and what is written have come to.
-#[derive(Drop)]
+#[derive(Clone, Copy)]
 pub struct Through {
     pub from: usize,
     pub out: usize,
 }
 
 // The same, and the type's record.
-#[derive(Drop)]
+#[derive(Clone, Copy)]
 pub struct Moved {
     pub ty: usize,
     pub from: usize,

@@ -17,14 +17,14 @@ use kind::Scalar;
 use ty::{Leaf, Limit, Target};
 
 // The rank of a conversion between two kinds, if there is one.
-#[derive(Drop)]
+#[derive(Clone, Copy)]
 pub enum Rank {
     At(u8),
     Never,
 }
 
 // The answer of the entry `conversion_rank`: a rank, or the number of the refusal.
-#[derive(Drop)]
+#[derive(Clone, Copy)]
 pub enum Ranked {
     Rank(u8),
     Refused(u8),

@@ -40,51 +40,51 @@ module _ (target mem : List ℕ) (room : ℕ) where
 -- ---- by the type
 
 module _ (t : Ty) (mem : List ℕ) (room : ℕ) {b : Bool} (h : b ≡ has_layout t) where
-  pub no-layout : not b ≡ true → read_by t mem room ≡ no 25
+  pub no_layout : b ≡ false → read_by t mem room ≡ no 25
   unfolding read_by laid_type
-  no-layout q = rw (← h, not-true b q)
+  no_layout q = rw (← h, q)
 
-  module _ (q : not b ≡ false) where
+  module _ (q : b ≡ true) where
     pub other_size : (length mem ≡ size_of t → ⊥) → read_by t mem room ≡ no 26
     unfolding read_by laid_type
-    other_size f = rw (← h, not-false b q, ne_eqb (length mem) (size_of t) f)
+    other_size f = rw (← h, q, ne_eqb (length mem) (size_of t) f)
 
-    pub its-size : length mem ≡ size_of t → read_by t mem room ≡ hand_val room (mem_value t mem)
+    pub its_size : length mem ≡ size_of t → read_by t mem room ≡ hand_val room (mem_value t mem)
     unfolding read_by laid_type
-    its-size e = rw (← h, not-false b q, eq-eqb (length mem) (size_of t) e)
+    its_size e = rw (← h, q, eq-eqb (length mem) (size_of t) e)
 
     -- the type, with its table
     pub sized : {target pads : List ℕ} → Whole target t → Padded pads 0 t → length target ≤ length pads → length mem ≡ size_of t
         → Sized target pads mem t
-    sized w p l e = record { whole = w; laid = rw (← h, not-false b q) tt; padded = p; long = l; size = e }
+    sized w p l e = record { whole = w; laid = rw (← h, q) tt; padded = p; long = l; size = e }
 
 -- ---- the value that is read
 
 module _ {target pads mem : List ℕ} {t : Ty} (x : Sized target pads mem t) where
-  pub read-typed : type_of (mem_value t mem) ≡ t
-  read-typed = mem_typed t mem x.whole.shaped
+  pub read_typed : type_of (mem_value t mem) ≡ t
+  read_typed = mem_typed t mem x.whole.shaped
 
   module _ (b : Bytes mem) where
-    pub read-shaped : T (shaped_val (mem_value t mem))
-    read-shaped = mem_shaped t mem b x.whole.shaped x.laid
+    pub read_shaped : T (shaped_val (mem_value t mem))
+    read_shaped = mem_shaped t mem b x.whole.shaped x.laid
 
-    pub read-long : length (val_bytes (mem_value t mem)) ≡ val_len t
-    read-long = val_len_lem (mem_value t mem) read-shaped ∙ ap val_len read-typed
+    pub read_long : length (val_bytes (mem_value t mem)) ≡ val_len t
+    read_long = val_len_lem (mem_value t mem) read_shaped ∙ ap val_len read_typed
 
-  pub sized-typed : Typed 15 target 0 pads (length target) t
-  sized-typed = record { stands = x.whole; padded = x.padded; long = x.long }
+  pub sized_typed : Typed 15 target 0 pads (length target) t
+  sized_typed = record { stands = x.whole; padded = x.padded; long = x.long }
 
-  pub sized-room : Bytes mem → (out : List ℕ) → val_len t ≤ length out → ValueRoom 15 target 0 pads mem 0 out 0
+  pub sized_room : Bytes mem → (out : List ℕ) → val_len t ≤ length out → ValueRoom 15 target 0 pads mem 0 out 0
   unfolding value_from
-  sized-room b out h =
-      record { type = t; ty_end = length target; typed = sized-typed; within = omega (arith, x.size); room = omega (arith, read-long b) }
+  sized_room b out h =
+      record { type = t; ty_end = length target; typed = sized_typed; within = omega (arith, x.size); room = omega (arith, read_long b) }
 
   -- the record, or 22
-  pub read-refused : (out : List ℕ) → length out < val_len t → Told (hand_val (length out) (mem_value t mem)) out (Refused 22) out
-  read-refused out h = builds_long {x = ok (mem_value t mem)} out (mem_value t mem) refl (omega (arith, ap val_len read-typed))
+  pub read_refused : (out : List ℕ) → length out < val_len t → Told (hand_val (length out) (mem_value t mem)) out (Refused 22) out
+  read_refused out h = builds_long {x = ok (mem_value t mem)} out (mem_value t mem) refl (omega (arith, ap val_len read_typed))
 
-  pub read-record : Bytes mem → {out out' : List ℕ} {r : ℕ} → val_len t ≤ length out → Put out 0 (value_from t mem 0) r out'
+  pub read_record : Bytes mem → {out out' : List ℕ} {r : ℕ} → val_len t ≤ length out → Put out 0 (value_from t mem 0) r out'
       → Told (hand_val (length out) (mem_value t mem)) out (Record r) out'
   unfolding value_from
-  read-record b {out} h y = builds_record {x = ok (mem_value t mem)} out (mem_value t mem) refl (read-shaped b)
-      (omega (arith, ap val_len read-typed)) y
+  read_record b {out} h y = builds_record {x = ok (mem_value t mem)} out (mem_value t mem) refl (read_shaped b)
+      (omega (arith, ap val_len read_typed)) y

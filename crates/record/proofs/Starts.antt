@@ -13,11 +13,11 @@ use Rattle.record.proofs.Places.{at_of, past, view1}
 
 -- ---- what a test's answer says
 
-pub known : {r b : Bool} → r ≡ b → not r ≡ false → T b
-known {r} p q = subst T (sym (not-false r q) ∙ p) tt
+pub known : {r b : Bool} → r ≡ b → r ≡ true → T b
+known p q = subst T (sym q ∙ p) tt
 
-pub unknown : {r b : Bool} → r ≡ b → not r ≡ true → T b → ⊥
-unknown {r} p q h = subst T (sym p ∙ not-true r q) h
+pub unknown : {r b : Bool} → r ≡ b → r ≡ false → T b → ⊥
+unknown p q h = subst T (sym p ∙ q) h
 
 pub decided : {P : Type 0} {r : Bool} → Decides P r → r ≡ true → P
 decided {P} h q = subst (Decides P) q h

@@ -1,14 +1,11 @@
 -- The answers of the scalar constructors are told by their numbers.
 use mathlib.Core.Path.{◌≡◌, refl, sym, ap, ap₂, ◌∙◌}
 use mathlib.Core.Option.{Option, none, some}
-use mathlib.Core.Logic.{inl, inr}
 use mathlib.Core.List.{List, [], ◌∷◌}
 use mathlib.Core.Bool.{Bool, true, false, cond}
 use Prim.Native.Nat.{ℕ, zero, suc}
 use native.Mathlib.Omega.{arith}
 use lib.Dec.{eqb, eqb-suc-zero}
-use types.Run.{OneOf}
-use denote.Enum.Declared.{tag_of}
 use Rattle.meaning.specs.Kinds.{Kind, same_kind}
 use Rattle.meaning.specs.Scalars.{Stage, ctor_test, ctor_bits}
 use Rattle.meaning.specs.Answers.{Result, ok, no, miscount, ◌>>◌, need, all, all_some, refusal_of}
@@ -19,7 +16,6 @@ use Rattle.laws.proofs.Sound.{some_inj, no_some}
 use Rattle.literal.specs.LiteralAnswers.{paper}
 use Rattle.literal.specs.declared.Made.{Made}
 use Rattle.literal.specs.declared.Made.TheVariants.{Of, NoTarget, NoArgument, Abstract, Integer, Float}
-use Rattle.literal.specs.contracts.Made.{the_type}
 use Rattle.conv.specs.Items.{Item, Literal, Vector, Matrix, Array}
 use Rattle.scalar.specs.Made.{make_item}
 
@@ -43,18 +39,10 @@ all_given f (a ∷ l) m e = let x = all_cons f a l e in ap₂ push (ap given x.h
 
 -- ---- what was made of a literal
 
--- a payload is the first of the enum's variants, by their numbers
-pub not_refused : OneOf (1 ∷ 2 ∷ 3 ∷ 4 ∷ 5 ∷ []) 0 → ⊥
-not_refused (inl e) = omega arith
-not_refused (inr (inl e)) = omega arith
-not_refused (inr (inr (inl e))) = omega arith
-not_refused (inr (inr (inr (inl e)))) = omega arith
-not_refused (inr (inr (inr (inr e)))) = omega arith
-
 -- any other is the refusal of its number
-pub refusal_is : (m : Made) → OneOf (1 ∷ 2 ∷ 3 ∷ 4 ∷ 5 ∷ []) (tag_of the_type m) → paper m ≡ no (refusal_of (paper m))
+pub refusal_is : (m : Made) → ((p : ℕ) → m ≡ Of p → ⊥) → paper m ≡ no (refusal_of (paper m))
 unfolding paper refusal_of
-refusal_is (Of p) h = absurd (not_refused h)
+refusal_is (Of p) h = absurd (h p refl)
 refusal_is NoTarget h = refl
 refusal_is NoArgument h = refl
 refusal_is Abstract h = refl

@@ -12,14 +12,14 @@ use kind::Scalar;
 use ty::{Head, Limit, TypeEnd};
 
 // A scalar kind by its number, or that there is none.
-#[derive(Drop)]
+#[derive(Clone, Copy)]
 pub enum Found {
     Kind(u8),
     Nothing,
 }
 
 // What the arguments of a matrix are, once their type and their number are right; or the refusal.
-#[derive(Drop)]
+#[derive(Clone, Copy)]
 pub enum Shape {
     Scalars,
     Columns,

@@ -7,7 +7,7 @@ ghost use Rattle.third_demand.specs.Entries.{Calls};
 
 use error::Written;
 
-#[derive(Drop)]
+#[derive(Clone, Copy)]
 pub struct Results {
     pub typing: Written,
     pub building: Written,

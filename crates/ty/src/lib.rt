@@ -15,7 +15,7 @@ ghost use Rattle.ty.specs.Targets.{ArrayShape, VectorShape, MatrixShape, Runtime
 use kind::Scalar;
 
 // The limits of document 01 on types and arguments, each with its words. They are written once, here.
-#[derive(Drop)]
+#[derive(Clone, Copy)]
 pub struct Limit;
 
 impl Limit {
@@ -49,14 +49,14 @@ impl Limit {
 }
 
 // Where a type's record ends.
-#[derive(Drop)]
+#[derive(Clone, Copy)]
 pub enum TypeEnd {
     At(usize),
     Bad,
 }
 
 // The front of a record of which nothing is known: where it ends if it has no parts, else what its parts are.
-#[derive(Drop)]
+#[derive(Clone, Copy)]
 enum Front {
     Whole(usize),
     Array,
@@ -65,7 +65,7 @@ enum Front {
 }
 
 // What the bytes of a target are. A type's record is read again where its parts are wanted.
-#[derive(Drop)]
+#[derive(Clone, Copy)]
 pub enum Target {
     Type,
     Runtime,
@@ -76,7 +76,7 @@ pub enum Target {
 }
 
 // The front of a well-formed type's record: `Ts` kind; `Tv` n and a kind; `Tm` c r and a kind; `Ta` count; `Tu` identity and member count.
-#[derive(Drop)]
+#[derive(Clone, Copy)]
 pub enum Head {
     Scalar(u8),
     Vector(u8, u8),
@@ -86,14 +86,14 @@ pub enum Head {
 }
 
 // Where a type's record ends, and how long the record of its value is; or that this length is past 64 bits.
-#[derive(Drop)]
+#[derive(Clone, Copy)]
 pub enum Len {
     Is(usize, usize),
     TooLong,
 }
 
 // The scalar kind at the bottom of a type, or that a struct is in the way.
-#[derive(Drop)]
+#[derive(Clone, Copy)]
 pub enum Leaf {
     Kind(u8),
     Struct,

@@ -71,7 +71,7 @@ pub extern "C" fn vireo_read_layout(target: &[u8], memory: &[u8], out: &mut [u8]
 
 // The answer of `layout_of` in numbers: the number of the refusal, or 0; and the size and the alignment.
 #[repr(C)]
-#[derive(Drop)]
+#[derive(Clone, Copy)]
 pub struct MemoryLayout {
     pub refusal: u64,
     pub size: u64,

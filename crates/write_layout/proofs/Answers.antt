@@ -23,37 +23,37 @@ module _ {args : List ℕ} (room : ℕ) where
   unfolding write_answer written
   one_answer x = rw (one_read x)
 
-  pub none-answer : Bytes args → ((v : Val) → OneValue args v → ⊥) → write_answer args room ≡ no 2
+  pub none_answer : Bytes args → ((v : Val) → OneValue args v → ⊥) → write_answer args room ≡ no 2
   unfolding write_answer
-  none-answer b f = rw (none_read b f)
+  none_answer b f = rw (none_read b f)
 
 module _ (v : Val) (room : ℕ) {b : Bool} (h : b ≡ has_layout (type_of v)) where
-  pub no-layout : not b ≡ true → written v room ≡ no 25
+  pub no_layout : b ≡ false → written v room ≡ no 25
   unfolding written
-  no-layout q = rw (← h, not-true b q)
+  no_layout q = rw (← h, q)
 
-  module _ (q : not b ≡ false) where
+  module _ (q : b ≡ true) where
     pub too_long : room < size_of (type_of v) → written v room ≡ no 22
     unfolding written
-    too_long l = rw (← h, not-false b q, lt-leb (size_of (type_of v)) room l)
+    too_long l = rw (← h, q, lt-leb (size_of (type_of v)) room l)
 
     pub has_room : size_of (type_of v) ≤ room → written v room ≡ ok (mem_bytes v)
     unfolding written
-    has_room l = rw (← h, not-false b q, le-leb (size_of (type_of v)) room l)
+    has_room l = rw (← h, q, le-leb (size_of (type_of v)) room l)
 
 -- ---- the value that is written, from the front of the buffer on
 
 module _ {ty args : List ℕ} {v : Val} (x : Asked ty args v) where
-  pub asked-long : length (mem_bytes v) ≡ size_of (type_of v)
-  asked-long = mem_size v (one_shaped x.value)
+  pub asked_long : length (mem_bytes v) ≡ size_of (type_of v)
+  asked_long = mem_size v (one_shaped x.value)
 
   module _ {pads : List ℕ} (p : Padded pads 0 (type_of v)) (l : length ty ≤ length pads) where
-    pub asked-value : Value 15 ty 0 pads args 0 (length ty) (length args) v
-    asked-value = record { stands = x.type; padded = p; long = l; has = one_has x.value }
+    pub asked_value : Value 15 ty 0 pads args 0 (length ty) (length args) v
+    asked_value = record { stands = x.type; padded = p; long = l; has = one_has x.value }
 
-    pub asked-room : (out : List ℕ) → size_of (type_of v) ≤ length out → ValueRoom 15 ty 0 pads args 0 out 0
-    asked-room out h = record { value = v; ty_end = length ty; end = length args; is = asked-value; room = omega (arith, asked-long) }
+    pub asked_room : (out : List ℕ) → size_of (type_of v) ≤ length out → ValueRoom 15 ty 0 pads args 0 out 0
+    asked_room out h = record { value = v; ty_end = length ty; end = length args; is = asked_value; room = omega (arith, asked_long) }
 
 -- a type's record at the front of a buffer of 4,096 bytes is not longer
-pub front-short : {s : List ℕ} {t : Ty} {q : ℕ} → Stands 15 s 0 t q → length s ≡ 4096 → length (take q s) ≤ 4096
-front-short {s} {q = q} w e = omega (arith, length-take-le q s w.within, w.within)
+pub front_short : {s : List ℕ} {t : Ty} {q : ℕ} → Stands 15 s 0 t q → length s ≡ 4096 → length (take q s) ≤ 4096
+front_short {s} {q = q} w e = omega (arith, length-take-le q s w.within, w.within)

@@ -15,7 +15,7 @@ use kind::Scalar;
 use ty::{Head, Len, Limit};
 
 // Where the type's record ends, and where the value's record does.
-#[derive(Drop)]
+#[derive(Clone, Copy)]
 pub struct Zeroed {
     pub ty: usize,
     pub out: usize,

@@ -35,7 +35,7 @@ returns-in-Nan-clause-value c =
 
 pub returns-in-Nan-clause-upper_bound : goal.returns-in-Nan-clause-upper_bound
 returns-in-Nan-clause-upper_bound c =
-    rw c.in-Nan.is (bounded c.args.p c.args.emax c.requires.format nan
+    (bounded c.args.p c.args.emax c.requires.format nan
     (nan_bits_lem c.args.p c.args.emax c.infinity.ensures c.placed.ensures)).1
 
 pub returns-in-Inf-clause-value : goal.returns-in-Inf-clause-value
@@ -45,12 +45,17 @@ returns-in-Inf-clause-value c =
 
 pub returns-in-Inf-clause-upper_bound : goal.returns-in-Inf-clause-upper_bound
 returns-in-Inf-clause-upper_bound c =
-    rw c.in-Inf.is (bounded c.args.p c.args.emax c.requires.format (inf c.in-Inf.s)
+    (bounded c.args.p c.args.emax c.requires.format (inf c.in-Inf.s)
     (inf_bits c.args.p c.args.emax c.in-Inf.s c.sign.ensures c.infinity-in-Inf.ensures)).1
 
-pub returns-in-Fin : goal.returns-in-Fin
-returns-in-Fin c =
+pub returns-in-Fin-clause-value : goal.returns-in-Fin-clause-value
+returns-in-Fin-clause-value c =
     let n = c.in-Fin.m * 2 ^ c.in-Fin.e in
-    rw c.in-Fin.is
+    rw c.in-Fin.is (bounded c.args.p c.args.emax c.requires.format (fin c.in-Fin.s n) (fin_bits c.args.p c.args.emax c.in-Fin.s n c.sign-in-Fin.ensures
+    c.pack.ensures)).0
+
+pub returns-in-Fin-clause-upper_bound : goal.returns-in-Fin-clause-upper_bound
+returns-in-Fin-clause-upper_bound c =
+    let n = c.in-Fin.m * 2 ^ c.in-Fin.e in
     (bounded c.args.p c.args.emax c.requires.format (fin c.in-Fin.s n) (fin_bits c.args.p c.args.emax c.in-Fin.s n c.sign-in-Fin.ensures
-    c.pack.ensures))
+    c.pack.ensures)).1

@@ -4,7 +4,11 @@ use Rattle.meaning.specs.Floats.{bits}
 use Rattle.float.proofs.convert.Goals as goal
 
 pub returns-clause-value : goal.returns-clause-value
-returns-clause-value c = let e = sym (ap (bits c.args.p c.args.emax) c.unpack.ensures.means) in c.assemble.ensures.value ∙ e
+returns-clause-value c =
+    let e = sym (ap (bits c.args.p c.args.emax) c.unpack.ensures.means) in
+    c.assemble.ensures.value ∙ e
 
 pub returns-clause-upper_bound : goal.returns-clause-upper_bound
-returns-clause-upper_bound c = let e = sym (ap (bits c.args.p c.args.emax) c.unpack.ensures.means) in c.assemble.ensures.upper_bound
+returns-clause-upper_bound c =
+    let e = sym (ap (bits c.args.p c.args.emax) c.unpack.ensures.means) in
+    c.assemble.ensures.upper_bound

@@ -27,10 +27,14 @@ pub returns-in-Inf-clause-upper_bound : goal.returns-in-Inf-clause-upper_bound
 unfolding Scalars.toward
 returns-in-Inf-clause-upper_bound c = c.wrap.ensures.upper_bound
 
-pub returns-in-Fin : goal.returns-in-Fin
+pub returns-in-Fin-clause-value : goal.returns-in-Fin-clause-value
 unfolding Scalars.toward
-returns-in-Fin c =
-    let n = c.in-Fin.m * 2 ^ c.in-Fin.e in (
-      rw c.in-Fin.is (c.wrap-in-Fin.ensures.value ∙ ap (Scalars.wrap c.in-Fin.s) (c.cut.ensures ∙ ap (min (n / 2 ^ 1074)) c.end-in-Fin.ensures)),
-      c.wrap-in-Fin.ensures.upper_bound,
-    )
+returns-in-Fin-clause-value c =
+    let n = c.in-Fin.m * 2 ^ c.in-Fin.e in
+    rw c.in-Fin.is (c.wrap-in-Fin.ensures.value ∙ ap (Scalars.wrap c.in-Fin.s) (c.cut.ensures ∙ ap (min (n / 2 ^ 1074)) c.end-in-Fin.ensures))
+
+pub returns-in-Fin-clause-upper_bound : goal.returns-in-Fin-clause-upper_bound
+unfolding Scalars.toward
+returns-in-Fin-clause-upper_bound c =
+    let n = c.in-Fin.m * 2 ^ c.in-Fin.e in
+    c.wrap-in-Fin.ensures.upper_bound

@@ -1,0 +1,41 @@
+-- The scan writes where there is a kind at the bottom; a struct is copied.
+use mathlib.Core.Path.{ap}
+use native.Mathlib.Omega.{arith}
+use lib.ListN.{length}
+use Rattle.meaning.specs.Trees.{Val}
+use Rattle.meaning.specs.Records.{val_bytes}
+use Rattle.meaning.specs.Answers.{map_some}
+use Rattle.conv.proofs.Values.{scan_room, scan_put}
+use Rattle.conv.proofs.ValueByType.{kind_scan, struct_into, struct_put}
+use Rattle.conv.proofs.write_converted.Goals as goal
+
+pub convert_items-requires : goal.convert_items-requires
+unfolding map_some
+convert_items-requires c =
+    let y = kind_scan c.requires.asked c.leaf_at.ensures c.in-Kind.is in
+    scan_room y.scan y.no (ap (map_some val_bytes) c.requires.goes) c.requires.room
+
+pub copy-requires : goal.copy-requires
+unfolding map_some
+copy-requires c =
+    let q = ap (λ (v : Val). length (val_bytes v)) (struct_into c.requires.asked c.leaf_at.ensures
+    c.in-Struct.is c.requires.goes) in
+    (omega (arith, c.requires.asked.has.bytes.size), c.requires.asked.has.bytes.within, omega (arith, c.requires.asked.has.bytes.size, c.requires.room))
+
+pub shape_of-out-in-Kind : goal.shape_of-out-in-Kind
+unfolding map_some
+shape_of-out-in-Kind c = c.convert_items.auto.out
+
+pub returns-in-Kind : goal.returns-in-Kind
+unfolding map_some
+returns-in-Kind c =
+    λ t v w x g. let y = kind_scan x (search) c.in-Kind.is in
+    scan_put y.scan y.no (ap (map_some val_bytes) g) c.convert_items.ensures
+
+pub shape_of-out-in-Struct : goal.shape_of-out-in-Struct
+unfolding map_some
+shape_of-out-in-Struct c = c.copy.auto.out
+
+pub returns-in-Struct : goal.returns-in-Struct
+unfolding map_some
+returns-in-Struct c = λ t v w x g. struct_put x (search) c.in-Struct.is g c.copy.ensures

@@ -1,0 +1,41 @@
+-- `literal::convert_abstract_float` meets its contract: each kind's rule computes, and a number over 6 is none's.
+use mathlib.Core.Path.{ap}
+use mathlib.Core.Option.{none}
+use Rattle.meaning.specs.Kinds.{afloat, kind_no, kind_of, same_kind, kind_rank, from_afloat}
+use Rattle.meaning.specs.Scalars.{number, conv, conv_fits, conv_bits, some?}
+use Rattle.kind.specs.Ends.{of_kind}
+use Rattle.kind.proofs.Numbers.{over}
+use Rattle.literal.specs.LiteralAnswers.{converted_of, conv_from}
+use Rattle.literal.proofs.convert_abstract_float.Goals as goal
+
+pub returns-in-0 : goal.returns-in-0
+unfolding of_kind kind_no kind_of same_kind kind_rank from_afloat some? number conv conv_fits conv_bits converted_of conv_from
+returns-in-0 c = rw c.in-0.is
+
+pub returns-in-1 : goal.returns-in-1
+unfolding of_kind kind_no kind_of same_kind kind_rank from_afloat some? number conv conv_fits conv_bits converted_of conv_from
+returns-in-1 c = rw c.in-1.is
+
+pub returns-in-2 : goal.returns-in-2
+unfolding of_kind kind_no kind_of same_kind kind_rank from_afloat some? number conv conv_fits conv_bits converted_of conv_from
+returns-in-2 c = rw c.in-2.is
+
+pub returns-in-3 : goal.returns-in-3
+unfolding of_kind kind_no kind_of same_kind kind_rank from_afloat some? number conv conv_fits conv_bits converted_of conv_from
+returns-in-3 c = rw c.in-3.is
+
+pub returns-in-4 : goal.returns-in-4
+unfolding of_kind kind_no kind_of same_kind kind_rank from_afloat some? number conv conv_fits conv_bits converted_of conv_from
+returns-in-4 c = rw c.in-4.is
+
+pub returns-in-5 : goal.returns-in-5
+unfolding of_kind kind_no kind_of same_kind kind_rank from_afloat some? number conv conv_fits conv_bits converted_of conv_from
+returns-in-5 c = rw (c.in-5.is, ← c.f64_to_f32.ensures.value) c.finite.ensures
+
+pub returns-in-6 : goal.returns-in-6
+unfolding of_kind kind_no kind_of same_kind kind_rank from_afloat some? number conv conv_fits conv_bits converted_of conv_from
+returns-in-6 c = rw (c.in-6.is, ← c.f64_to_f16.ensures.value) c.finite-in-6.ensures
+
+pub returns-in_default : goal.returns-in_default
+unfolding of_kind kind_no kind_of same_kind kind_rank from_afloat some? number conv conv_fits conv_bits converted_of conv_from
+returns-in_default c = ap converted_of (over none (λ k. conv k afloat c.args.bits) c.args.to c.in_default.in_default-own.rest)

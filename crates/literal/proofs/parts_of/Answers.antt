@@ -1,0 +1,47 @@
+-- `literal::parts_of` meets its contract: the kind's number picks the reading, and a number over 6 has a NaN.
+use mathlib.Core.Path.{sym}
+use Rattle.meaning.specs.Kinds.{kind_of}
+use Rattle.meaning.specs.Floats.{nan}
+use Rattle.meaning.specs.Scalars.{number}
+use Rattle.kind.specs.Ends.{of_kind}
+use Rattle.kind.proofs.Numbers.{over}
+use Rattle.literal.specs.LiteralAnswers.{number_of}
+use borrow.Author.Rules.{rules}
+use Rattle.literal.proofs.parts_of.Goals as goal
+
+pub returns-in-0 : goal.returns-in-0
+unfolding number_of of_kind kind_of number
+returns-in-0 c = rw c.in-0.is c.int_parts.ensures
+
+pub returns-in-1 : goal.returns-in-1
+unfolding number_of of_kind kind_of number
+returns-in-1 c = rw (c.in-1.is, c.abstract_int_number.ensures) c.whole_parts.ensures
+
+pub returns-in-2 : goal.returns-in-2
+unfolding number_of of_kind kind_of number
+returns-in-2 c = rw c.in-2.is c.f64_parts.ensures
+
+pub returns-in-3 : goal.returns-in-3
+unfolding number_of of_kind kind_of number
+returns-in-3 c = rw (c.in-3.is, c.i32_number.ensures) c.whole_parts-in-3.ensures
+
+pub returns-in-4 : goal.returns-in-4
+unfolding number_of of_kind kind_of number
+returns-in-4 c = rw c.in-4.is c.int_parts-in-4.ensures
+
+pub returns-in-5 : goal.returns-in-5
+unfolding number_of of_kind kind_of number
+returns-in-5 c = rw c.in-5.is c.f32_parts.ensures
+
+pub returns-in-6 : goal.returns-in-6
+unfolding number_of of_kind kind_of number
+returns-in-6 c = rw c.in-6.is c.f16_parts.ensures
+
+pub returns-in_default : goal.returns-in_default
+unfolding number_of of_kind kind_of number
+returns-in_default c =
+    record {
+      means = sym (over nan (λ k. number k c.args.bits) c.args.from c.in_default.in_default-own.rest);
+      small = search
+          rules;
+    }

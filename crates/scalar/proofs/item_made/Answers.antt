@@ -1,0 +1,23 @@
+-- A mark stays; a literal is refused as its constructor refuses it.
+use mathlib.Core.Path.{◌∙◌}
+use native.Mathlib.Omega.{arith}
+use Rattle.conv.proofs.ItemSteps.{item_front, literal_within}
+use Rattle.scalar.proofs.MadeSteps.{mark_made, literal_refusal}
+use Rattle.scalar.proofs.item_made.Goals as goal
+
+pub overflow_add-mark : goal.overflow_add-mark
+overflow_add-mark c = omega (arith, item_front c.requires.stands)
+
+pub bounds-src-i : goal.bounds-src-i
+bounds-src-i c = omega (arith, item_front c.requires.stands)
+
+pub returns-then-mark-ne115 : goal.returns-then-mark-ne115
+returns-then-mark-ne115 c = λ s j a x w. mark_made w c.if-mark-ne115.true s j
+
+pub made_at-requires : goal.made_at-requires
+made_at-requires c = search literal_within
+
+pub returns : goal.returns
+returns c =
+    λ s j a x w. c.refusal.ensures ∙ literal_refusal w c.if-mark-ne115.false x c.made_at.result
+    c.made_at.ensures

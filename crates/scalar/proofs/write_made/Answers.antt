@@ -1,0 +1,69 @@
+-- What writes the rest makes the whole.
+use mathlib.Core.Path.{◌≡◌, refl, ◌∙◌}
+use mathlib.Core.List.{List}
+use Prim.Native.Nat.{◌-◌}
+use native.Mathlib.Omega.{arith}
+use lib.ListN.{length}
+use Rattle.meaning.specs.Kinds.{Kind}
+use Rattle.meaning.specs.Scalars.{Stage}
+use Rattle.meaning.specs.Answers.{ok}
+use Rattle.conv.specs.Items.{Item, ItemsAt}
+use Rattle.scalar.specs.Made.{make_item, make_items, Ctor}
+use Rattle.conv.proofs.Walk.{next_item, next_less, Writing, write_all, write_room, write_on, write_end}
+use Rattle.scalar.proofs.Results.{given_ok, all_given}
+use Rattle.scalar.proofs.MadeLeft.{made_of}
+use Rattle.scalar.proofs.write_made.Goals as goal
+
+pub loop-i-init : goal.loop-i-init
+loop-i-init c =
+    (
+      refl,
+      λ s j l m x w g. write_all (made_of s j) c.args.out.now c.args.to w
+          (all_given (make_item s j) l m g),
+    )
+
+pub put_made-p-requires : goal.put_made-p-requires
+put_made-p-requires c =
+    write_room (c.loop-i.invariant.1 c.requires.at c.requires.kind c.requires.items c.requires.intos c.requires.ctor c.requires.stands c.requires.goes) c.loop-i-test.true
+    (omega (arith, c.requires.room, c.loop-i.invariant.0))
+    λ a b w q t. record {
+      at = c.requires.at;
+      kind = c.requires.kind;
+      ctor = c.requires.ctor;
+      item = a;
+      into = b;
+      stands = w;
+      goes = given_ok
+          (make_item c.requires.at c.requires.kind a) q;
+      room = t;
+    }
+
+pub item_end-i-requires : goal.item_end-i-requires
+item_end-i-requires c =
+    next_item
+    (c.loop-i.invariant.1 c.requires.at c.requires.kind c.requires.items c.requires.intos c.requires.ctor c.requires.stands c.requires.goes)
+    c.loop-i-test.true
+
+pub loop-i-smaller : goal.loop-i-smaller
+loop-i-smaller c =
+    omega (
+      arith,
+      c.loop-i-test.true,
+      next_less (c.loop-i.invariant.1 c.requires.at c.requires.kind c.requires.items c.requires.intos c.requires.ctor
+          c.requires.stands c.requires.goes) c.loop-i-test.true c.item_end-i.ensures,
+    )
+
+pub loop-i-preserved : goal.loop-i-preserved
+loop-i-preserved c =
+    (
+      c.put_made-p.auto.out ∙ c.loop-i.invariant.0,
+      λ s j l m x w g. write_on (c.loop-i.invariant.1 s j l m x w g)
+          c.loop-i-test.true c.item_end-i.ensures
+          (λ a b u q. c.put_made-p.ensures s j a b x u (given_ok (make_item s j a) q)),
+    )
+
+pub shape_of-out : goal.shape_of-out
+shape_of-out c = c.loop-i.invariant.0
+
+pub returns : goal.returns
+returns c = λ s j l m x w g. write_end (c.loop-i.invariant.1 s j l m x w g) c.loop-i-test.false

@@ -1,0 +1,21 @@
+-- The tests are the record's fields.
+use native.Mathlib.Omega.{arith}
+use Rattle.record.proofs.Starts.{known, unknown}
+use Rattle.ty.proofs.is_matrix_shape.Goals as goal
+
+pub returns-then-not-is_side : goal.returns-then-not-is_side
+returns-then-not-is_side c = λ w. unknown c.is_side.ensures c.if-not-is_side.true w.wide
+
+pub returns-then-not-is_side-2 : goal.returns-then-not-is_side-2
+returns-then-not-is_side-2 c = λ w. unknown c.is_side-2.ensures c.if-not-is_side-2.true w.high
+
+pub returns : goal.returns
+returns c =
+    record {
+      size = omega arith;
+      first = omega arith;
+      second = omega arith;
+      wide = known c.is_side.ensures
+          c.if-not-is_side.false;
+      high = known c.is_side-2.ensures c.if-not-is_side-2.false;
+    }
