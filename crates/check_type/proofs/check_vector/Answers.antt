@@ -1,0 +1,31 @@
+-- The kind decides first, then how many arguments there are.
+use mathlib.Core.Path.{◌∙◌}
+use Rattle.meaning.specs.Trees.{Tv}
+use Rattle.arg_types.proofs.Given.{given_none, given_one, given_more}
+use Rattle.check_type.proofs.Checks.{rules_as, of_refused, of_none, of_one, of_more, vector_abstract, vector_typeable, vector_one}
+use Rattle.check_type.proofs.Checks.{vector_more}
+use Rattle.check_type.proofs.check_vector.Goals as goal
+
+pub returns-then-is_abstract : goal.returns-then-is_abstract
+returns-then-is_abstract c = λ j l e g. of_refused (Tv _ j) l (vector_abstract j e c.is_abstract.ensures _ c.if-is_abstract.true)
+
+pub returns-then-n-eq0 : goal.returns-then-n-eq0
+returns-then-n-eq0 c = λ j l e g. search (of_none, vector_typeable, given_none)
+
+pub check_vector_one-requires : goal.check_vector_one-requires
+check_vector_one-requires c =
+    let x = given_one c.requires.given c.if-n-eq1.true in
+    record { type = _; stands = x.whole }
+
+pub returns-then-n-eq1 : goal.returns-then-n-eq1
+returns-then-n-eq1 c =
+    λ j l e g. let x = given_one g c.if-n-eq1.true in
+    rules_as (Tv _ j) c.check_vector_one.result (of_one (Tv _ j)
+    (vector_typeable j e c.is_abstract.ensures _ c.if-is_abstract.false) x.is
+    ∙ vector_one _ j x.type) (c.check_vector_one.ensures j x.type e x.whole)
+
+pub returns : goal.returns
+returns c =
+    λ j l e g. rules_as (Tv _ j) c.check_vector_parts.result (of_more (Tv _ j)
+    (vector_typeable j e c.is_abstract.ensures _ c.if-is_abstract.false)
+    (given_more g c.if-n-eq0.false c.if-n-eq1.false) ∙ vector_more _ j l) (c.check_vector_parts.ensures j l e g)

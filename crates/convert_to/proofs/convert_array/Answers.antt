@@ -1,0 +1,43 @@
+-- No array is refused; an array goes to the counted one.
+use mathlib.Core.Path.{refl, sym}
+use lib.Seq.{length-take-le}
+use Rattle.error.proofs.BufferAtExit.{refused}
+use Rattle.error.proofs.Told.{told_as}
+use Rattle.convert_to.proofs.Runtimes.{mark_room, target_sizes, front_room, runtime_no, counted, counted_stands, counted_asked}
+use Rattle.convert_to.proofs.Runtimes.{counted_same}
+use Rattle.convert_to.proofs.convert_array.Goals as goal
+
+pub bounds-ty-1 : goal.bounds-ty-1
+bounds-ty-1 c = search mark_room
+
+pub returns-then-ty-ne97 : goal.returns-then-ty-ne97
+returns-then-ty-ne97 c = λ t v x. refused 9 _ (runtime_no x _ c.if-ty-ne97.true)
+
+pub counted-m-requires : goal.counted-m-requires
+counted-m-requires c = (front_room c.requires.asked c.if-ty-ne97.false, (target_sizes c.requires.asked).0, (target_sizes c.requires.asked).1)
+
+pub slice_bounds-whole-end : goal.slice_bounds-whole-end
+slice_bounds-whole-end c =
+    (counted_stands c.requires.asked
+    c.if-ty-ne97.false refl c.counted-m.ensures).within
+
+pub slice_bounds-convert_value-end : goal.slice_bounds-convert_value-end
+slice_bounds-convert_value-end c =
+    sym (length-take-le _ _ (counted_stands
+    c.requires.asked
+    c.if-ty-ne97.false refl c.counted-m.ensures).within)
+
+pub convert_value-requires : goal.convert_value-requires
+convert_value-requires c =
+    record {
+      to = _;
+      from = _;
+      asked = counted_asked
+          c.requires.asked
+          c.if-ty-ne97.false refl c.counted-m.ensures;
+    }
+
+pub returns : goal.returns
+returns c =
+    λ t v x. told_as (counted_same x c.if-ty-ne97.false _) (c.convert_value.ensures (counted x c.if-ty-ne97.false) v
+    (counted_asked x c.if-ty-ne97.false refl c.counted-m.ensures))

@@ -1,0 +1,77 @@
+-- The length, the kind, each component; then it is measured and written.
+use mathlib.Core.Path.{sym, ◌∙◌}
+use native.Mathlib.Omega.{arith}
+use Rattle.error.proofs.BufferAtExit.{builds_as, builds_no}
+use Rattle.scalar.specs.Made.{Ctor}
+use Rattle.scalar.proofs.OneLiteral.{abstract_is, concrete}
+use Rattle.vector.proofs.Args.{arg_front, arg_vector}
+use Rattle.vector.proofs.Writes.{vector_long, whole_room, whole_record}
+use Rattle.vector.proofs.OneToVector.{vec_other_length, vec_abstract, vector_items, made_no, remade, remade_room, remade_put}
+use borrow.Author.Rules.{rules}
+use Rattle.vector.proofs.rebuilt.Goals as goal
+
+pub bounds-args-2 : goal.bounds-args-2
+bounds-args-2 c = omega (arith, arg_front c.requires.one_arg.row)
+
+pub returns-then-args-n : goal.returns-then-args-n
+returns-then-args-n c =
+    λ s j v a e x. builds_no c.args.out.now 7
+    (vec_other_length (arg_vector x c.requires.args_value) s c.args.n j c.if-args-n.true)
+
+pub returns-then-is_abstract : goal.returns-then-is_abstract
+returns-then-is_abstract c =
+    λ s j v a e x. builds_no _ 12 (vec_abstract (arg_vector x (search)) s _ j c.if-args-n.false
+    (sym (abstract_is j e c.is_abstract.ensures) ∙ c.if-is_abstract.true))
+
+pub all_made-no-requires : goal.all_made-no-requires
+all_made-no-requires c = vector_items c.requires.one_arg.row (arg_vector c.requires.one_arg.row c.requires.args_value) c.requires.some_stage.stage c.requires.some_kind.kind
+
+pub returns-then-no-ne0 : goal.returns-then-no-ne0
+returns-then-no-ne0 c =
+    λ s j v a e x. let t : Ctor _ _ s j = record {
+      ruled = a;
+      no = e;
+      concrete = concrete j e c.is_abstract.ensures
+          c.if-is_abstract.false;
+    } in
+    builds_no _ c.all_made-no.result (made_no x (arg_vector x (search)) c.if-args-n.false t
+    c.all_made-no.ensures c.if-no-ne0.true)
+
+pub returns-then-vector_len-out : goal.returns-then-vector_len-out
+returns-then-vector_len-out c =
+    λ s j v a e x. let t : Ctor _ _ s j = record {
+      ruled = a;
+      no = e;
+      concrete = concrete j e
+          c.is_abstract.ensures c.if-is_abstract.false;
+    } in
+    let y = remade x (arg_vector x (search)) (search) t c.all_made-no.ensures c.if-no-ne0.false in
+    builds_as _ y.is (vector_long _ c.vector_len.ensures j e y.pays y.count y.good _ c.if-vector_len-out.true)
+
+pub write_made-requires : goal.write_made-requires
+write_made-requires c =
+    let w = arg_vector c.requires.one_arg.row c.requires.args_value in
+    let t : Ctor c.args.rules c.args.k c.requires.some_stage.stage c.requires.some_kind.kind =
+    record {
+      ruled = c.requires.some_stage.ruled;
+      no = c.requires.some_kind.no;
+      concrete = concrete c.requires.some_kind.kind c.requires.some_kind.no (search)
+          c.if-is_abstract.false;
+    } in
+    let y = remade c.requires.one_arg.row w (search) t c.all_made-no.ensures c.if-no-ne0.false in
+    remade_room c.requires.one_arg.row w (search) t y (whole_room c.args.n c.vector_len.ensures c.requires.some_kind.kind c.requires.some_kind.no y.pays y.count
+    y.good c.args.out.now c.if-vector_len-out.false)
+
+pub returns : goal.returns
+returns c =
+    λ s j v a e x. let w = arg_vector x (search) in
+    let t : Ctor c.args.rules c.args.k s j = record {
+      ruled = a;
+      no = e;
+      concrete = concrete j e
+          c.is_abstract.ensures (search);
+    } in
+    let y = remade x w (search) t c.all_made-no.ensures (search) in
+    builds_as c.args.out.now y.is
+    (whole_record c.args.n c.vector_len.ensures j e y.pays y.count y.good c.args.out.now
+    c.if-vector_len-out.false (remade_put x w (search) t y c.write_made.ensures))
