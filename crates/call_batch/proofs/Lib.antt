@@ -2,6 +2,5 @@
 -- entry tells; Const and Override
 pub mod Alone
 pub mod Turns
-pub mod LentAgain
 pub mod Entries
 pub mod Stages
