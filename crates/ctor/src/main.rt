@@ -9,6 +9,7 @@ ghost use Rattle.ctor_line.specs.Split.{asked};
 
 use ctor_line::Input;
 use error::{Refusal, Written};
+use std::io::{self, Read};
 
 // The answer to an input whose target has n bytes.
 fn ask(input: &[u8], n: usize, buffer: &mut [u8]) -> Written
@@ -37,17 +38,18 @@ fn run(input: &[u8], out: &mut [u8]) -> usize
 }
 
 // No contract can say what is written. This one says what is handed over to be written: the line of the input that was read.
-fn print(input: &[u8], text: &[u8])
+fn print(rt: &impl Print, input: &[u8], text: &[u8]) -> io::Result<()>
     requires { text.now ≡ run_ctor input.now }
 {
-    io::write_all(1, text);
+    rt.write_all(text)
 }
 
 // One byte more than a call may have is asked for, so that a longer input is seen to be longer.
-fn main() {
-    let mut input = [0u8; 65537];
-    let n = io::read_full(0, &mut input);
+fn main(rt: HostRuntime) -> io::Result<()> {
+    let mut bytes = Vec::new(rt.alloc());
+    rt.stdin().take(65537).read_to_end(&mut bytes)?;
+    let input = bytes.as_slice();
     let mut out = [0u8; 131200];
-    let r = run(&input[..n], &mut out);
-    print(&input[..n], &out[..r]);
+    let r = run(input, &mut out);
+    print(&rt, input, &out[..r])
 }

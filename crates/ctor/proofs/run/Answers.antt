@@ -1,0 +1,27 @@
+-- The line of what is answered is the line of the input.
+use mathlib.Core.Path.{sym, ◌∙◌}
+use borrow.Author.Rules.{rules}
+use Rattle.error.specs.Told.{paper}
+use Rattle.ctor_line.specs.Printed.{answer_in, record_len}
+use Rattle.ctor_line.specs.Split.{asked}
+use Rattle.ctor_line.proofs.Lines.{told_in, told_len}
+use Rattle.ctor_line.proofs.Splits.{call_within, run_split}
+use Rattle.ctor.proofs.run.Goals as goal
+
+pub ask-answer-requires-clause-n_in_bounds : goal.ask-answer-requires-clause-n_in_bounds
+ask-answer-requires-clause-n_in_bounds c = call_within _ _ (sym c.split.ensures ∙ c.in-Call.is)
+
+pub put_line-requires-clause-answer_in_bounds : goal.put_line-requires-clause-answer_in_bounds
+put_line-requires-clause-answer_in_bounds c = told_len c.ask-answer.ensures
+
+pub put_line-requires-in-Bad-clause-answer_in_bounds : goal.put_line-requires-in-Bad-clause-answer_in_bounds
+unfolding record_len
+put_line-requires-in-Bad-clause-answer_in_bounds c = search rules
+
+pub returns-in-Call-clause-put : goal.returns-in-Call-clause-put
+returns-in-Call-clause-put c =
+    rw (run_split, ← c.split.ensures, c.in-Call.is, ← told_in c.ask-answer.ensures) c.put_line.ensures.put
+
+pub returns-in-Bad-clause-put : goal.returns-in-Bad-clause-put
+unfolding asked answer_in paper
+returns-in-Bad-clause-put c = rw (run_split, ← c.split.ensures, c.in-Bad.is) c.put_line-in-Bad.ensures.put
