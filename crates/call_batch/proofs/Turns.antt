@@ -7,6 +7,7 @@ use Prim.Native.Nat.{ℕ, zero, suc, ◌-◌, ◌≤◌, ◌<◌}
 use native.Mathlib.Omega.{arith}
 use native.Mathlib.Nat.{zero-add, suc_inj}
 use lib.Dec.{T, leb}
+use borrow.Author.Tests.{eq-eqb, ne_eqb}
 use lib.ListN.{length, take, drop, get_or, set, length-append, length-map}
 use lib.Seq.{take-suc, drop-cons, take-length, drop-length, length-take-le, set_at, get_or_at, take-append_seam, drop-append_seam}
 use Rattle.meaning.specs.Answers.{Result, ok, no, miscount, refusal_of, need, ◌>>◌, ◌>>=◌}
@@ -19,9 +20,27 @@ use Rattle.error.specs.Numbers.{numbers, Records, value_of, wanted_of, given_of}
 use Rattle.laws.proofs.Back.{and_l, and_r}
 use Rattle.laws.proofs.Handed.{front_keeps}
 use Rattle.call_batch.specs.Jobs.{job_of, answered, filled, listed, Batched}
-use Rattle.call_batch.specs.Steps.{alone_at, laid_at, Ready, step_of, counting, judging, doing, closing}
+use Rattle.call_batch.specs.Steps.{alone_at, laid_at, Ready, step_of, counting, inside_of, judging, doing, closing}
 use Rattle.call_batch.specs.declared.Job.{Job}
 use Rattle.laws.proofs.Batch.{records_fit, turns_append, records_append, turns_length, laid_append}
+
+-- what one job makes of the refusal so far: one that is a refusal stays, whatever the job; else both parts decide, first the target's
+pub judging_stays : (f room : ℕ) (j : Job) → (f ≡ 0 → ⊥) → f ≡ judging f room j
+judging_stays f room j h = rw (ne_eqb f 0 h)
+
+pub judging_inside : (f room : ℕ) (j : Job) (a b : Bool) → f ≡ 0 → a ≡ inside_of room j.target → a ≡ true → b ≡ inside_of room j.args
+    → b ≡ true → 0 ≡ judging f room j
+unfolding parts_inside
+judging_inside f room j a b e p g q h = rw (eq-eqb f 0 e, ← p, g, ← q, h)
+
+pub judging_target : (f room : ℕ) (j : Job) (a : Bool) → f ≡ 0 → a ≡ inside_of room j.target → a ≡ false → 24 ≡ judging f room j
+unfolding parts_inside
+judging_target f room j a e p g = rw (eq-eqb f 0 e, ← p, g)
+
+pub judging_args : (f room : ℕ) (j : Job) (a b : Bool) → f ≡ 0 → a ≡ inside_of room j.target → a ≡ true → b ≡ inside_of room j.args
+    → b ≡ false → 24 ≡ judging f room j
+unfolding parts_inside
+judging_args f room j a b e p g q h = rw (eq-eqb f 0 e, ← p, g, ← q, h)
 
 -- the refusal after the jobs of a list were looked at one after another, where it was f before
 unfoldable pub judged_all_lem : ℕ → List Job → ℕ → ℕ
