@@ -40,13 +40,10 @@ returns-in-Bad c =
     left_bad ty_bytes (TypeArg _ _) _ c.loop-i.i c.loop-i.n c.loop-i.invariant c.loop-i-test.true
     (λ h. let v = type_head _ _ _ c.loop-i.i h in f _ (record { type = v.type; stands = v.stands }))
 
-pub loop-i-smaller : goal.loop-i-smaller
-loop-i-smaller c = omega (arith, c.if-n-ge-ARGUMENTS.false)
-
 pub loop-i-preserved : goal.loop-i-preserved
 loop-i-preserved c =
     let f = subst (Told (Ends _ _ c.loop-i.i)) c.in-At.is c.type_end.ensures in
-    type_left _ _ _ c.loop-i.i c.loop-i.n c.loop-i.invariant (search) (omega (arith, c.loop-i.invariant.few, c.if-n-ge-ARGUMENTS.false))
+    type_left _ _ _ c.loop-i.i c.loop-i.n c.loop-i.invariant (search) (omega (arith, c.loop-i.invariant.few))
     f.type _ f.stands (omega (arith, f.stands.size, c.if-e-i.false))
 
 pub returns : goal.returns
