@@ -124,12 +124,7 @@ fn is_inside(room: usize, part: Part) -> bool
 }
 
 // The refusal so far, or 24 where the job's parts are not both inside a slice of so many bytes, or 0.
-#[tactic(auto, using(
-    crate::proofs::Turns::judging_stays,
-    crate::proofs::Turns::judging_inside,
-    crate::proofs::Turns::judging_target,
-    crate::proofs::Turns::judging_args,
-))]
+#[tactic(auto, using(crate::proofs::Turns::judging_stays, crate::proofs::Turns::judging_inside, crate::proofs::Turns::judging_target, crate::proofs::Turns::judging_args,))]
 fn judged(refusal: u8, room: usize, job: Job) -> u8
     ensures { result ≡ judging refusal room job }
 {

@@ -16,11 +16,17 @@ use Rattle.laws.proofs.Back.{and_l, and_r, shaped_of, deep_of}
 use Rattle.laws.proofs.Same.{both}
 use Rattle.laws.proofs.Sound.{Bytes}
 use Rattle.laws.proofs.Exact.{target_exact}
-use Rattle.ty.specs.Stands.{Stands}
+use Rattle.ty.specs.Stands.{Stands, OneType}
 use Rattle.ty.specs.Targets.{ArrayShape, VectorShape, MatrixShape, RuntimeTarget, TypeTarget, target_of, is_bad, Meant}
 use Rattle.record.proofs.Places.{view2, view3, view4}
 use Rattle.ty.specs.declared.Target.{Target}
 use Rattle.ty.specs.declared.Target.TheVariants.{«Type», Runtime, Array, Vector, Matrix, Bad}
+
+-- ---- a type that is all of the bytes
+
+-- "Depth 15 passes, 16 is malformed"
+pub one_type_deep : (s : List ℕ) (w : OneType s) → depth w.type ≤ 15
+one_type_deep s w = w.stands.deep
 
 -- ---- a type that is all of the bytes from a place on
 
