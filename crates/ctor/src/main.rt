@@ -1,7 +1,7 @@
 // The program `ctor`: its standard input to one line.
 #![tactic(auto)]
 
-ghost use Rattle.std.specs.Prelude.{◌≡◌, ◌+◌, ◌≤◌, length};
+ghost use Rattle.std.specs.Prelude.{◌≡◌, ◌+◌, ◌≤◌, length, IfOk};
 ghost use Rattle.meaning.specs.Entries.{build_answer, run_ctor};
 ghost use Rattle.record.specs.Bytes.{Put};
 ghost use Rattle.error.specs.Told.{Told};
@@ -9,7 +9,7 @@ ghost use Rattle.ctor_line.specs.Split.{asked};
 
 use ctor_line::Input;
 use error::{Refusal, Written};
-use std::io::{self, Read};
+use std::io::{self, ErrorKind, Read};
 
 // The answer to an input whose target has n bytes.
 fn ask(input: &[u8], n: usize, buffer: &mut [u8]) -> Written
@@ -44,12 +44,30 @@ fn print(rt: &impl Print, input: &[u8], text: &[u8]) -> io::Result<()>
     rt.write_all(text)
 }
 
+// Fills the buffer from its front until it is full or the input ends; how many bytes were read.
+fn read_full(from: &mut impl Read, buffer: &mut [u8]) -> io::Result<usize>
+    ensures { IfOk result (λ n. n ≤ length buffer.new) }
+{
+    let mut n = 0;
+    for _ in 0..u64::MAX {
+        match from.read(&mut buffer[n..]) {
+            Ok(0) => break,
+            Ok(k) => n += k,
+            Err(e) => {
+                if e.kind() != ErrorKind::Interrupted {
+                    return Err(e);
+                }
+            }
+        }
+    }
+    Ok(n)
+}
+
 // One byte more than a call may have is asked for, so that a longer input is seen to be longer.
 fn main(rt: HostRuntime) -> io::Result<()> {
-    let mut bytes = Vec::new(rt.alloc());
-    rt.stdin().take(65537).read_to_end(&mut bytes)?;
-    let input = bytes.as_slice();
+    let mut input = [0u8; 65537];
+    let n = read_full(&mut rt.stdin(), &mut input)?;
     let mut out = [0u8; 131200];
-    let r = run(input, &mut out);
-    print(&rt, input, &out[..r])
+    let r = run(&input[..n], &mut out);
+    print(&rt, &input[..n], &out[..r])
 }

@@ -30,7 +30,7 @@ loop-i-smaller c =
       arith,
       c.loop-i-test.true,
       types_less
-          (c.loop-i.invariant (search) (search)) c.loop-i-test.true
+          (c.loop-i.invariant c.requires.types (search)) c.loop-i-test.true
           c.end_of_type-i.ensures,
     )
 

@@ -43,7 +43,7 @@ loop-i-smaller c =
       arith,
       c.loop-i-test.true,
       types_less
-          (c.loop-i.invariant (search) (search) (search) (search)) c.loop-i-test.true
+          (c.loop-i.invariant c.requires.some_type_row.types c.requires.ends.type (search) (search)) c.loop-i-test.true
           c.end_of_type-e.ensures,
     )
 

@@ -8,8 +8,8 @@ use Rattle.array.proofs.qa_of.Goals as goal
 
 pub all_fit-requires : goal.all_fit-requires
 all_fit-requires c =
-    let f = common_of _ c.common_type_of.result c.common_type_of.new.ty (c.common_type_of.ensures (search) (search)) c.in-Of.is in
-    record { values = _; row = search; type = f.type; end = _; stands = f.stands; converts = common_to (search) f.type f.is }
+    let f = common_of _ c.common_type_of.result c.common_type_of.new.ty (c.common_type_of.ensures c.requires.1.values (search)) c.in-Of.is in
+    record { values = _; row = search; type = f.type; end = _; stands = f.stands; converts = common_to c.requires.1.values f.type f.is }
 
 pub returns-then-not-all_fit : goal.returns-then-not-all_fit
 returns-then-not-all_fit c =

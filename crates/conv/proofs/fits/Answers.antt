@@ -27,7 +27,7 @@ loop-i-smaller c =
       arith,
       c.loop-i-test.true,
       next_less
-          (c.loop-i.invariant (search) (search)) c.loop-i-test.true
+          (c.loop-i.invariant c.requires.items (search)) c.loop-i-test.true
           c.item_end-i.ensures,
     )
 

@@ -31,7 +31,7 @@ convert_array-requires c =
     c.one_value.new.ty) c.in-Of.is
     c.one_value.ensures in
     record {
-      to = search;
+      to = c.requires.type;
       from = f.value;
       asked = record {
         whole = search;

@@ -30,7 +30,7 @@ convert_value-requires c =
     c.args.args.now r
     c.one_value.new.ty) c.in-Of.is
     c.one_value.ensures in
-    record { to = search; from = f.value; asked = record { whole = search; value = f.one; type = front_whole f.stands } }
+    record { to = c.requires.type; from = f.value; asked = record { whole = search; value = f.one; type = front_whole f.stands } }
 
 pub returns-in-Of : goal.returns-in-Of
 returns-in-Of c =

@@ -11,7 +11,7 @@ pub next_type-step-requires-clause-some_arg : goal.next_type-step-requires-claus
 next_type-step-requires-clause-some_arg c = record { value = c.requires.some_first.value; others = c.requires.some_first.others; row = c.requires.some_first.row }
 
 pub goes_down-requires : goal.goes_down-requires
-goes_down-requires c = record { type = _; end = _; stands = (c.next_type-step.ensures (search) (search) (search)).stands }
+goes_down-requires c = record { type = _; end = _; stands = (c.next_type-step.ensures c.requires.some_first.value c.requires.some_first.others (search)).stands }
 
 pub returns-then-not-goes_down : goal.returns-then-not-goes_down
 returns-then-not-goes_down c =
@@ -20,11 +20,11 @@ returns-then-not-goes_down c =
     (c.next_type-step.ensures v l w).stands)))
 
 pub overflow_sub-last : goal.overflow_sub-last
-overflow_sub-last c = omega (arith, type_some (c.next_type-step.ensures (search) (search) (search)).stands)
+overflow_sub-last c = omega (arith, type_some (c.next_type-step.ensures c.requires.some_first.value c.requires.some_first.others (search)).stands)
 
 pub bounds-ty-last : goal.bounds-ty-last
 bounds-ty-last c =
-    let t = (c.next_type-step.ensures (search) (search) (search)).stands in omega
+    let t = (c.next_type-step.ensures c.requires.some_first.value c.requires.some_first.others (search)).stands in omega
     (arith, type_some t, t.within)
 
 pub mat_to-requires : goal.mat_to-requires

@@ -26,7 +26,7 @@ loop-i-smaller c =
     omega (
       arith,
       c.loop-i-test.true,
-      next_less (c.loop-i.invariant (search) (search)) c.loop-i-test.true
+      next_less (c.loop-i.invariant c.requires.items (search)) c.loop-i-test.true
           c.item_end-i.ensures,
     )
 

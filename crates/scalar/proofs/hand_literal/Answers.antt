@@ -16,7 +16,7 @@ returns-then-literal_len-out c = λ j n g. search handed_long
 
 pub put_literal-requires : goal.put_literal-requires
 put_literal-requires c =
-    handed_room c.in-Of.is (search) (search) c.literal_len.ensures
+    handed_room c.in-Of.is c.requires.kind (search) c.literal_len.ensures
     c.if-literal_len-out.false
 
 pub returns : goal.returns

@@ -27,7 +27,7 @@ loop-i-smaller c =
       arith,
       c.loop-i-test.true,
       args_less
-          (c.loop-i.invariant (search) (search)) c.loop-i-test.true
+          (c.loop-i.invariant c.requires.values (search)) c.loop-i-test.true
           c.next_arg-i.ensures,
     )
 

@@ -11,18 +11,18 @@ pub returns-then-count-sides : goal.returns-then-count-sides
 returns-then-count-sides c = λ l x. builds_miscount c.args.out.now c.args.n c.flat_count-count.result (qv_miscount c.args.n c.flat_count-count.result (flattened l) c.if-count-sides.true (c.flat_count-count.ensures l x))
 
 pub slice_bounds-ty-end : goal.slice_bounds-ty-end
-slice_bounds-ty-end c = (common_of _ c.common_type_of.result c.common_type_of.new.ty (c.common_type_of.ensures (search) (search)) c.in-Of.is).stands.within
+slice_bounds-ty-end c = (common_of _ c.common_type_of.result c.common_type_of.new.ty (c.common_type_of.ensures c.requires.some_row.values (search)) c.in-Of.is).stands.within
 
 pub slice_bounds-to_common-end : goal.slice_bounds-to_common-end
 slice_bounds-to_common-end c =
-    sym (length-take-le _ _ (common_of _ c.common_type_of.result c.common_type_of.new.ty (c.common_type_of.ensures (search) (search))
+    sym (length-take-le _ _ (common_of _ c.common_type_of.result c.common_type_of.new.ty (c.common_type_of.ensures c.requires.some_row.values (search))
     c.in-Of.is).stands.within)
 
 pub to_common-requires : goal.to_common-requires
 to_common-requires c =
-    let f = common_of _ c.common_type_of.result c.common_type_of.new.ty (c.common_type_of.ensures (search) (search)) c.in-Of.is in
+    let f = common_of _ c.common_type_of.result c.common_type_of.new.ty (c.common_type_of.ensures c.requires.some_row.values (search)) c.in-Of.is in
     record {
-      values = search;
+      values = c.requires.some_row.values;
       type = f.type;
       common = in_common (search) f
           (c.flat_count-count.ensures _ (search)) (search);
