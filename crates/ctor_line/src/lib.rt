@@ -165,8 +165,8 @@ fn put_miscount(wanted: usize, given: usize, out: &mut [u8]) -> usize
 
 // The line of an answer, at the front of `out`; its end is handed back. The record is at the front of `buffer`.
 pub fn put_line(answer: Written, buffer: &[u8], out: &mut [u8]) -> usize
-    requires answer_in_bounds { record_len answer ≤ length buffer.now }
-    requires buffer_in_bounds { 66 + 2 * length buffer.now ≤ length out.old }
+    requires within { record_len answer ≤ length buffer.now }
+    requires room { 66 + 2 * length buffer.now ≤ length out.old }
     ensures put { Put out.old 0 (line (answer_in answer buffer.now)) result out.new }
     ensures upper_bound { result ≤ length out.new }
 {

@@ -186,7 +186,7 @@ fn scaled(m: u64, e: u64, d: u64) -> u64
 // count gives the exponent and the shift.
 fn dropped(p: u64, emax: u64, m: u64, e: u64) -> u64
     requires format { Format p emax }
-    requires m_nonzero { (0 < m) × (e < 2100) }
+    requires bounds { (0 < m) × (e < 2100) }
     ensures value { result ≡ Floats.dropped p emax (m * 2 ^ e) }
     ensures upper_bound { result < 2164 }
 {
@@ -433,7 +433,7 @@ pub fn outside(p: u64, emax: u64, v: Parts) -> bool
 // The threshold is p + 1 ones with emax - p places below them.
 pub fn rounds_finite(p: u64, emax: u64, v: Parts) -> bool
     requires format { Format p emax }
-    requires le_p { (2 ≤ p) × (1 ≤ emax) }
+    requires least { (2 ≤ p) × (1 ≤ emax) }
     ensures { result ≡ Floats.finite p emax (bits p emax (meaning v)) }
 {
     match v {

@@ -44,7 +44,7 @@ fn name_vector_one(n: u8, args: &[u8]) -> Named
 // `Qv` of several: parts (12), then their number (8), then their common kind (10).
 fn name_vector_parts(n: u8, args: &[u8], count: usize) -> Named
     requires some_given { SomeGiven args.now count }
-    requires le_count { 2 ≤ count }
+    requires several { 2 ≤ count }
     ensures { VectorPartsName n args.now count result }
 {
     if !arg_types::are_parts(args) {

@@ -53,7 +53,7 @@ fn mat_by(
     count: usize,
     out: &mut [u8],
 ) -> Written
-    requires t { T (float_number k) }
+    requires kind { T (float_number k) }
     requires some_first { SomeFirst args.now count }
     requires first_as { FirstAs k j ty.now args.now }
     ensures { MatParts c r k args.now count out.old result out.new }
@@ -66,7 +66,7 @@ fn mat_by(
 
 // The arguments whatever the first is: its type is derived. The last byte of a type's record is its kind, which becomes the target's.
 fn mat_others(c: u8, r: u8, k: u8, args: &[u8], count: usize, out: &mut [u8]) -> Written
-    requires t { T (float_number k) }
+    requires kind { T (float_number k) }
     requires some_first { SomeFirst args.now count }
     ensures { MatParts c r k args.now count out.old result out.new }
 {
@@ -84,7 +84,7 @@ fn mat_others(c: u8, r: u8, k: u8, args: &[u8], count: usize, out: &mut [u8]) ->
 // level down, or in its place if it is a scalar (7 if that doesn't convert; a struct never does)". The front of a
 // scalar's or a vector's type, which most are, says all of it; only other types are derived.
 pub fn mat_parts(c: u8, r: u8, k: u8, args: &[u8], count: usize, out: &mut [u8]) -> Written
-    requires t { T (side c) × T (side r) × T (float_number k) }
+    requires shape { T (side c) × T (side r) × T (float_number k) }
     requires some_first { SomeFirst args.now count }
     ensures { MatParts c r k args.now count out.old result out.new }
 {
@@ -122,7 +122,7 @@ fn mat_made(rules: Rules, c: u8, r: u8, k: u8, args: &[u8], out: &mut [u8]) -> W
 
 // One argument of a matrix type: "one matrix needs equal size (7), then constructors" (13 "also one matrix into a kind 2 matrix type").
 pub fn mat_one(rules: Rules, c: u8, r: u8, k: u8, args: &[u8], out: &mut [u8]) -> Written
-    requires t { T (side c) × T (side r) × T (float_number k) × SomeStage rules }
+    requires shape { T (side c) × T (side r) × T (float_number k) × SomeStage rules }
     requires one_arg { OneArg args.now }
     ensures { MatOne rules c r k args.now out.old result out.new }
 {
@@ -160,7 +160,7 @@ fn qm_to(c: u8, r: u8, ty: &[u8], args: &[u8], count: usize, out: &mut [u8]) -> 
 // The arguments of `Qm`, which are not one matrix: "common type (10); float, AbstractInt becoming AbstractFloat (13);
 // conversion (10); rows (14); count (8); 13".
 pub fn qm_parts(c: u8, r: u8, args: &[u8], count: usize, out: &mut [u8]) -> Written
-    requires t { T (side c) × T (side r) }
+    requires shape { T (side c) × T (side r) }
     requires some_first { SomeFirst args.now count }
     ensures { QmParts c r args.now count out.old result out.new }
 {
@@ -173,7 +173,7 @@ pub fn qm_parts(c: u8, r: u8, args: &[u8], count: usize, out: &mut [u8]) -> Writ
 
 // One argument of `Qm`: "one matrix of equal size kept (7)".
 pub fn qm_one(c: u8, r: u8, args: &[u8], out: &mut [u8]) -> Written
-    requires t { T (side c) × T (side r) }
+    requires shape { T (side c) × T (side r) }
     requires one_arg { OneArg args.now }
     ensures { QmOne c r args.now out.old result out.new }
 {

@@ -45,7 +45,7 @@ scalar_size u32 = 4
 scalar_size f32 = 4
 scalar_size f16 = 2
 
--- WGSL's round_up(k, n) = ⌈n ÷ k⌉ × k: the next multiple of k
+-- WGSL's roundUp(k, n) = ⌈n ÷ k⌉ × k: the next multiple of k
 unfoldable pub round_up : ℕ → ℕ → ℕ
 round_up k n = (n + (k - 1)) / k * k
 

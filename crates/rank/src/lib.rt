@@ -91,8 +91,8 @@ pub fn kind_rank(from: u8, to: u8) -> Rank
 
 // Whether two records are the same up to the last byte, which is where a type without a struct has its kind.
 fn same_shape(a: &[u8], b: &[u8]) -> bool
-    requires in_bounds { 1 ≤ length a.now }
-    requires in_bounds_2 { 1 ≤ length b.now }
+    requires some_a { 1 ≤ length a.now }
+    requires some_b { 1 ≤ length b.now }
     ensures { result ≡ same_bytes (front a.now) (front b.now) }
 {
     let m = a.len() - 1;

@@ -34,7 +34,7 @@ fn repeated(n: u8, k: u8, bits: u64, out: &mut [u8]) -> Written
 // One argument to an untemplated vector: "one literal repeated; one vector of n kept (7)". Anything else is one part,
 // and a vector has at least two.
 pub fn qv_one(n: u8, args: &[u8], out: &mut [u8]) -> Written
-    requires t { T (side n) }
+    requires sides { T (side n) }
     requires one_arg { OneArg args.now }
     ensures { QvOne n args.now out.old result out.new }
 {
@@ -57,7 +57,7 @@ pub fn qv_one(n: u8, args: &[u8], out: &mut [u8]) -> Written
 fn splat(n: u8, k: u8, args: &[u8], out: &mut [u8]) -> Written
     requires some_kind { SomeKind k }
     requires one_arg { OneArg args.now }
-    requires args_value { get_or args.now 1 0 ≡ ‘s’ }
+    requires mark { get_or args.now 1 0 ≡ ‘s’ }
     ensures { Splats n k args.now out.old result out.new }
 {
     match literal::convert_literal(k, args[2], record::payload_at(args, 0)) {
@@ -71,7 +71,7 @@ fn rebuilt(rules: Rules, n: u8, k: u8, args: &[u8], out: &mut [u8]) -> Written
     requires some_stage { SomeStage rules }
     requires some_kind { SomeKind k }
     requires one_arg { OneArg args.now }
-    requires args_value { get_or args.now 1 0 ≡ ‘v’ }
+    requires mark { get_or args.now 1 0 ≡ ‘v’ }
     ensures { VecOne rules n k args.now out.old result out.new }
 {
     if args[2] != n {
@@ -94,7 +94,7 @@ fn rebuilt(rules: Rules, n: u8, k: u8, args: &[u8], out: &mut [u8]) -> Written
 // One argument to a vector type. Anything but a literal or a vector is one part, and a vector has at least two.
 pub fn vec_one(rules: Rules, n: u8, k: u8, args: &[u8], out: &mut [u8]) -> Written
     requires some_stage { SomeStage rules }
-    requires t { T (side n) }
+    requires sides { T (side n) }
     requires some_kind { SomeKind k }
     requires one_arg { OneArg args.now }
     ensures { VecOne rules n k args.now out.old result out.new }
@@ -207,7 +207,7 @@ fn write_parts(n: u8, k: u8, args: &[u8], out: &mut [u8]) -> Written
 
 // Arguments to a vector type: "vectors are flattened, count (8), then conversion (9)".
 pub fn vec_parts(n: u8, k: u8, args: &[u8], out: &mut [u8]) -> Written
-    requires t { T (side n) }
+    requires sides { T (side n) }
     requires some_kind { SomeKind k }
     requires some_row { SomeRow args.now 0 }
     ensures { VecParts n k args.now out.old result out.new }
@@ -246,7 +246,7 @@ fn to_common(n: u8, args: &[u8], ty: &[u8], out: &mut [u8]) -> Written
 
 // Arguments to an untemplated vector: "flattened count (8), common type (10), scalars only (12)".
 pub fn qv_parts(n: u8, args: &[u8], out: &mut [u8]) -> Written
-    requires t { T (side n) }
+    requires sides { T (side n) }
     requires some_row { SomeRow args.now 0 }
     ensures { QvParts n args.now out.old result out.new }
 {

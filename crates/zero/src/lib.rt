@@ -157,8 +157,8 @@ pub fn zero_value(target: &[u8], out: &mut [u8]) -> Written
 
 // A vector of n zeros of the kind k: "`Qv` without arguments: AbstractInt zeros".
 pub fn zero_vector(n: u8, k: u8, out: &mut [u8]) -> Written
-    requires t { T (side n) }
-    requires t_2 { T (kind_number k) }
+    requires sides { T (side n) }
+    requires kind { T (kind_number k) }
     ensures { VectorTold n k out.old result out.new }
 {
     if ty::vector_len(n, k) > out.len() {

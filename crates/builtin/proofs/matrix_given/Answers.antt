@@ -21,9 +21,9 @@ returns-then-count-eq1 c =
     λ s l g. builds_one (build s (Qm _ _)) l g c.if-count-eq1.true
     (λ v w. c.qm_one.ensures v w)
 
-pub qm_parts-requires-clause-t : goal.qm_parts-requires-clause-t
+pub qm_parts-requires-clause-shape : goal.qm_parts-requires-clause-shape
 unfolding build
-qm_parts-requires-clause-t c = (c.requires.0, c.requires.1)
+qm_parts-requires-clause-shape c = (c.requires.0, c.requires.1)
 
 pub qm_parts-requires-clause-some_first : goal.qm_parts-requires-clause-some_first
 unfolding build

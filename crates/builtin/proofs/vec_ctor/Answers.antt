@@ -15,9 +15,9 @@ returns-then-count-eq1 c =
     λ s j e q l g. builds_one (build s (Of (Tv _ j))) l g c.if-count-eq1.true
     (λ v w. c.vec_one.ensures s j v e q w)
 
-pub vec_parts-requires-clause-t : goal.vec_parts-requires-clause-t
+pub vec_parts-requires-clause-sides : goal.vec_parts-requires-clause-sides
 unfolding build build_one build_more
-vec_parts-requires-clause-t c = c.requires.1
+vec_parts-requires-clause-sides c = c.requires.1
 
 pub vec_parts-requires-clause-some_kind : goal.vec_parts-requires-clause-some_kind
 unfolding build build_one build_more

@@ -8,13 +8,13 @@ use Rattle.ty.proofs.Numbers.{is_number}
 use Rattle.builtin.proofs.Counts.{builds_none, builds_one, builds_more, one_given}
 use Rattle.builtin.proofs.vector_given.Goals as goal
 
-pub zero_vector-requires-clause-t : goal.zero_vector-requires-clause-t
+pub zero_vector-requires-clause-sides : goal.zero_vector-requires-clause-sides
 unfolding build kind_no
-zero_vector-requires-clause-t c = c.requires.0
+zero_vector-requires-clause-sides c = c.requires.0
 
-pub zero_vector-requires-clause-t_2 : goal.zero_vector-requires-clause-t_2
+pub zero_vector-requires-clause-kind : goal.zero_vector-requires-clause-kind
 unfolding build kind_no
-zero_vector-requires-clause-t_2 c = is_number aint
+zero_vector-requires-clause-kind c = is_number aint
 
 pub returns-then-count-eq0 : goal.returns-then-count-eq0
 unfolding build kind_no
@@ -32,9 +32,9 @@ returns-then-count-eq1 c =
     λ s l g. builds_one (build s (Qv _)) l g c.if-count-eq1.true
     (λ v w. c.qv_one.ensures v w)
 
-pub qv_parts-requires-clause-t : goal.qv_parts-requires-clause-t
+pub qv_parts-requires-clause-sides : goal.qv_parts-requires-clause-sides
 unfolding build kind_no
-qv_parts-requires-clause-t c = c.requires.0
+qv_parts-requires-clause-sides c = c.requires.0
 
 pub qv_parts-requires-clause-some_row : goal.qv_parts-requires-clause-some_row
 unfolding build kind_no

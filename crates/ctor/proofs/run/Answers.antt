@@ -11,12 +11,12 @@ use Rattle.ctor.proofs.run.Goals as goal
 pub ask-answer-requires-clause-n_in_bounds : goal.ask-answer-requires-clause-n_in_bounds
 ask-answer-requires-clause-n_in_bounds c = call_within _ _ (sym c.split.ensures ∙ c.in-Call.is)
 
-pub put_line-requires-clause-answer_in_bounds : goal.put_line-requires-clause-answer_in_bounds
-put_line-requires-clause-answer_in_bounds c = told_len c.ask-answer.ensures
+pub put_line-requires-clause-within : goal.put_line-requires-clause-within
+put_line-requires-clause-within c = told_len c.ask-answer.ensures
 
-pub put_line-requires-in-Bad-clause-answer_in_bounds : goal.put_line-requires-in-Bad-clause-answer_in_bounds
+pub put_line-requires-in-Bad-clause-within : goal.put_line-requires-in-Bad-clause-within
 unfolding record_len
-put_line-requires-in-Bad-clause-answer_in_bounds c = search rules
+put_line-requires-in-Bad-clause-within c = search rules
 
 pub returns-in-Call-clause-put : goal.returns-in-Call-clause-put
 returns-in-Call-clause-put c =

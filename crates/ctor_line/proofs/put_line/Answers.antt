@@ -10,7 +10,7 @@ use Rattle.ctor_line.proofs.put_line.Goals as goal
 pub slice_bounds-put_ok-end : goal.slice_bounds-put_ok-end
 slice_bounds-put_ok-end c =
     sym
-    (record_bytes c.args.buffer.now c.in-Record.is c.requires.answer_in_bounds)
+    (record_bytes c.args.buffer.now c.in-Record.is c.requires.within)
 
 pub put_ok-requires : goal.put_ok-requires
 put_ok-requires c = simp length-take (omega arith)

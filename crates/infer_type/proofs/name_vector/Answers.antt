@@ -19,8 +19,8 @@ returns-then-count-eq1 c =
 pub name_vector_parts-requires-clause-some_given : goal.name_vector_parts-requires-clause-some_given
 name_vector_parts-requires-clause-some_given c = c.requires
 
-pub name_vector_parts-requires-clause-le_count : goal.name_vector_parts-requires-clause-le_count
-name_vector_parts-requires-clause-le_count c = two_least c.if-count-eq0.false c.if-count-eq1.false
+pub name_vector_parts-requires-clause-several : goal.name_vector_parts-requires-clause-several
+name_vector_parts-requires-clause-several c = two_least c.if-count-eq0.false c.if-count-eq1.false
 
 pub returns : goal.returns
 returns c =

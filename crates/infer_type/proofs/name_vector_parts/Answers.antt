@@ -18,7 +18,7 @@ total-sum-requires c = record { types = _; row = c.requires.some_given.given.row
 
 pub returns-then-sum-n : goal.returns-then-sum-n
 returns-then-sum-n c =
-    λ l g. let x = kinds_of g.row (given_two g c.requires.le_count)
+    λ l g. let x = kinds_of g.row (given_two g c.requires.several)
     (c.are_parts.ensures l g.row)
     (c.if-not-are_parts.false) in
     qv_miscount c.args.n l x.kinds
@@ -27,7 +27,7 @@ returns-then-sum-n c =
 
 pub common_kind-requires : goal.common_kind-requires
 common_kind-requires c =
-    let x = kinds_of c.requires.some_given.given.row (given_two c.requires.some_given.given c.requires.le_count)
+    let x = kinds_of c.requires.some_given.given.row (given_two c.requires.some_given.given c.requires.several)
     (c.are_parts.ensures _ c.requires.some_given.given.row)
     (c.if-not-are_parts.false) in
     record { types = _; first = _; others = _; kinds = x.kinds }

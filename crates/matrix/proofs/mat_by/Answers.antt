@@ -13,7 +13,7 @@ returns-then-not-kind_converts c =
 
 pub mat_to-requires : goal.mat_to-requires
 mat_to-requires c =
-    let k = float_no _ c.requires.t in
+    let k = float_no _ c.requires.kind in
     let d = kind_goes k.0 k.1 _ (c.requires.first_as.down _ _ c.requires.some_first.row) c.kind_converts.ensures
     (c.if-not-kind_converts.false) in
     mat_asked c.requires.some_first.row k.0 k.1 c.requires.some_first.size d (c.requires.first_as.stands k.0 _ _ k.1 c.requires.some_first.row)

@@ -10,8 +10,8 @@ use Rattle.matrix.proofs.mat_one.Goals as goal
 pub bounds-args-1 : goal.bounds-args-1
 bounds-args-1 c = search one_mark
 
-pub mat_parts-requires-clause-t : goal.mat_parts-requires-clause-t
-mat_parts-requires-clause-t c = (c.requires.t.0, c.requires.t.1, c.requires.t.2)
+pub mat_parts-requires-clause-shape : goal.mat_parts-requires-clause-shape
+mat_parts-requires-clause-shape c = (c.requires.shape.0, c.requires.shape.1, c.requires.shape.2)
 
 pub mat_parts-requires-clause-some_first : goal.mat_parts-requires-clause-some_first
 mat_parts-requires-clause-some_first c = record { value = _; others = []; row = c.requires.one_arg.row; size = refl }
@@ -38,15 +38,15 @@ pub mat_made-requires : goal.mat_made-requires
 mat_made-requires c =
     let e = sym c.same_size.ensures
     ∙ c.if-not-same_size.false in
-    let k = float_no _ c.requires.t.2 in
+    let k = float_no _ c.requires.shape.2 in
     record {
-      at = c.requires.t.3.stage;
+      at = c.requires.shape.3.stage;
       kind = k.0;
       from = _;
       pays = _;
       arg = record {
         ctor = record {
-          ruled = c.requires.t.3.ruled;
+          ruled = c.requires.shape.3.ruled;
           no = k.1;
           concrete = concrete k.0 k.1
               c.is_abstract.ensures c.if-is_abstract.false;

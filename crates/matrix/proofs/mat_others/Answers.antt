@@ -29,11 +29,11 @@ bounds-ty-last c =
 
 pub mat_to-requires : goal.mat_to-requires
 mat_to-requires c =
-    let k = float_no _ c.requires.t in
+    let k = float_no _ c.requires.kind in
     let t = (c.next_type-step.ensures c.requires.some_first.value c.requires.some_first.others c.requires.some_first.row).stands in
     let d = goes_to k.0 _ (sym (c.if-not-goes_down.false)
     ∙ c.goes_down.ensures k.0 _ _ k.1 t) in
-    mat_asked c.requires.some_first.row k.0 k.1 c.requires.some_first.size d (type_set k.0 k.1 c.requires.t d t)
+    mat_asked c.requires.some_first.row k.0 k.1 c.requires.some_first.size d (type_set k.0 k.1 c.requires.kind d t)
 
 pub returns : goal.returns
 returns c =

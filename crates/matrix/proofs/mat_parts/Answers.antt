@@ -5,8 +5,8 @@ use Rattle.args.specs.Row.{HeadOf}
 use Rattle.matrix.proofs.MatrixParts.{scalar_first, vector_first}
 use Rattle.matrix.proofs.mat_parts.Goals as goal
 
-pub mat_by-requires-clause-t : goal.mat_by-requires-clause-t
-mat_by-requires-clause-t c = c.requires.t.2
+pub mat_by-requires-clause-kind : goal.mat_by-requires-clause-kind
+mat_by-requires-clause-kind c = c.requires.shape.2
 
 pub mat_by-requires-clause-some_first : goal.mat_by-requires-clause-some_first
 mat_by-requires-clause-some_first c = c.requires.some_first
@@ -17,8 +17,8 @@ mat_by-requires-clause-first_as c =
     c.args.args.now 0 r)
     c.in-Scalar.is c.head_of.ensures)
 
-pub mat_by-requires-in-Vector-clause-t : goal.mat_by-requires-in-Vector-clause-t
-mat_by-requires-in-Vector-clause-t c = c.requires.t.2
+pub mat_by-requires-in-Vector-clause-kind : goal.mat_by-requires-in-Vector-clause-kind
+mat_by-requires-in-Vector-clause-kind c = c.requires.shape.2
 
 pub mat_by-requires-in-Vector-clause-some_first : goal.mat_by-requires-in-Vector-clause-some_first
 mat_by-requires-in-Vector-clause-some_first c = c.requires.some_first

@@ -10,8 +10,8 @@ use Rattle.matrix.proofs.qm_one.Goals as goal
 pub bounds-args-1 : goal.bounds-args-1
 bounds-args-1 c = search one_mark
 
-pub qm_parts-requires-clause-t : goal.qm_parts-requires-clause-t
-qm_parts-requires-clause-t c = c.requires.t
+pub qm_parts-requires-clause-shape : goal.qm_parts-requires-clause-shape
+qm_parts-requires-clause-shape c = c.requires.shape
 
 pub qm_parts-requires-clause-some_first : goal.qm_parts-requires-clause-some_first
 qm_parts-requires-clause-some_first c = record { value = _; others = []; row = c.requires.one_arg.row; size = refl }

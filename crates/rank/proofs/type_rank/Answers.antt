@@ -23,13 +23,13 @@ returns-in_default-leaf_at c =
     (sym c.in-Kind.is ∙ c.leaf_at.ensures t _ w)
     (sym c.in_default-leaf_at.is ∙ c.leaf_at-2.ensures u _ v)
 
-pub same_shape-requires-clause-in_bounds : goal.same_shape-requires-clause-in_bounds
-same_shape-requires-clause-in_bounds c =
+pub same_shape-requires-clause-some_a : goal.same_shape-requires-clause-some_a
+same_shape-requires-clause-some_a c =
     some_byte c.requires.one_type.stands (sym c.in-Kind.is
     ∙ c.leaf_at.ensures _ _ c.requires.one_type.stands)
 
-pub same_shape-requires-clause-in_bounds_2 : goal.same_shape-requires-clause-in_bounds_2
-same_shape-requires-clause-in_bounds_2 c = some_byte c.requires.one_type_2.stands (sym c.in-Kind-leaf_at.is ∙ c.leaf_at-2.ensures _ _ c.requires.one_type_2.stands)
+pub same_shape-requires-clause-some_b : goal.same_shape-requires-clause-some_b
+same_shape-requires-clause-some_b c = some_byte c.requires.one_type_2.stands (sym c.in-Kind-leaf_at.is ∙ c.leaf_at-2.ensures _ _ c.requires.one_type_2.stands)
 
 pub returns-then-same_shape : goal.returns-then-same_shape
 returns-then-same_shape c =

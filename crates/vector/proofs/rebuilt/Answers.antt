@@ -15,7 +15,7 @@ bounds-args-2 c = omega (arith, arg_front c.requires.one_arg.row)
 pub returns-then-args-n : goal.returns-then-args-n
 returns-then-args-n c =
     λ s j v a e x. builds_no c.args.out.now 7
-    (vec_other_length (arg_vector x c.requires.args_value) s c.args.n j c.if-args-n.true)
+    (vec_other_length (arg_vector x c.requires.mark) s c.args.n j c.if-args-n.true)
 
 pub returns-then-is_abstract : goal.returns-then-is_abstract
 returns-then-is_abstract c =
@@ -23,7 +23,7 @@ returns-then-is_abstract c =
     (sym (abstract_is j e c.is_abstract.ensures) ∙ c.if-is_abstract.true))
 
 pub all_made-no-requires : goal.all_made-no-requires
-all_made-no-requires c = vector_items c.requires.one_arg.row (arg_vector c.requires.one_arg.row c.requires.args_value) c.requires.some_stage.stage c.requires.some_kind.kind
+all_made-no-requires c = vector_items c.requires.one_arg.row (arg_vector c.requires.one_arg.row c.requires.mark) c.requires.some_stage.stage c.requires.some_kind.kind
 
 pub returns-then-no-ne0 : goal.returns-then-no-ne0
 returns-then-no-ne0 c =
@@ -49,7 +49,7 @@ returns-then-vector_len-out c =
 
 pub write_made-requires : goal.write_made-requires
 write_made-requires c =
-    let w = arg_vector c.requires.one_arg.row c.requires.args_value in
+    let w = arg_vector c.requires.one_arg.row c.requires.mark in
     let t : Ctor c.args.rules c.args.k c.requires.some_stage.stage c.requires.some_kind.kind =
     record {
       ruled = c.requires.some_stage.ruled;

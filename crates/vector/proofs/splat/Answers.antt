@@ -9,7 +9,7 @@ pub bounds-args-2 : goal.bounds-args-2
 bounds-args-2 c = omega (arith, arg_front c.requires.one_arg.row)
 
 pub payload_at-requires : goal.payload_at-requires
-payload_at-requires c = omega (arith, (arg_literal c.requires.one_arg.row c.requires.args_value).room)
+payload_at-requires c = omega (arith, (arg_literal c.requires.one_arg.row c.requires.mark).room)
 
 pub repeated-requires : goal.repeated-requires
 repeated-requires c = c.requires.some_kind

@@ -14,8 +14,8 @@ splat-requires-clause-some_kind c = c.requires.some_kind
 pub splat-requires-clause-one_arg : goal.splat-requires-clause-one_arg
 splat-requires-clause-one_arg c = c.requires.one_arg
 
-pub splat-requires-clause-args_value : goal.splat-requires-clause-args_value
-splat-requires-clause-args_value c = c.if-mark-eq115.true
+pub splat-requires-clause-mark : goal.splat-requires-clause-mark
+splat-requires-clause-mark c = c.if-mark-eq115.true
 
 pub returns-then-mark-eq115 : goal.returns-then-mark-eq115
 returns-then-mark-eq115 c = λ s j v a e x. c.splat.ensures s j v e x
@@ -29,8 +29,8 @@ rebuilt-requires-clause-some_kind c = c.requires.some_kind
 pub rebuilt-requires-clause-one_arg : goal.rebuilt-requires-clause-one_arg
 rebuilt-requires-clause-one_arg c = c.requires.one_arg
 
-pub rebuilt-requires-clause-args_value : goal.rebuilt-requires-clause-args_value
-rebuilt-requires-clause-args_value c = c.if-mark-eq118.true
+pub rebuilt-requires-clause-mark : goal.rebuilt-requires-clause-mark
+rebuilt-requires-clause-mark c = c.if-mark-eq118.true
 
 pub returns-then-mark-eq118 : goal.returns-then-mark-eq118
 returns-then-mark-eq118 c = λ s j v a e x. c.rebuilt.ensures s j v a e x
