@@ -1,7 +1,8 @@
 // The program `ctor`: its standard input to one line.
 #![tactic(auto)]
 
-ghost use Rattle.std.specs.Prelude.{◌≡◌, ◌+◌, ◌≤◌, length, IfOk};
+ghost use Rattle.std.specs.Prelude.{◌≡◌, ◌+◌, ◌≤◌, ◌<◌, length, take, IfOk};
+ghost use Rattle.std.specs.Io.KnownBytes.{Consumes, IsAtEnd};
 ghost use Rattle.meaning.specs.Entries.{build_answer, run_ctor};
 ghost use Rattle.record.specs.Bytes.{Put};
 ghost use Rattle.error.specs.Told.{Told};
@@ -44,14 +45,21 @@ fn print(rt: &impl Print, input: &[u8], text: &[u8]) -> io::Result<()>
     rt.write_all(text)
 }
 
-// Fills the buffer from its front until it is full or the input ends; how many bytes were read.
-fn read_full(from: &mut impl Read, buffer: &mut [u8]) -> io::Result<usize>
-    ensures { IfOk result (λ n. n ≤ length buffer.new) }
+// Fills the buffer from its front until it is full or the input ends: the n bytes at the front are the next n that the
+// reader had, in their order, and where they are fewer than the buffer takes, none is left. A read that a signal
+// interrupted is made again.
+fn read_full<R: Read>(from: &mut R, buffer: &mut [u8]) -> io::Result<usize>
+    ensures within { IfOk result (λ n. n ≤ length buffer.new) }
+    ensures bytes { IfOk result (λ n. Consumes (R.remaining from.old) (R.remaining from.new) (take n buffer.new)) }
+    ensures end { IfOk result (λ n. n < length buffer.new → IsAtEnd (R.remaining from.new)) }
 {
     let mut n = 0;
     for _ in 0..u64::MAX {
+        if n >= buffer.len() {
+            return Ok(n);
+        }
         match from.read(&mut buffer[n..]) {
-            Ok(0) => break,
+            Ok(0) => return Ok(n),
             Ok(k) => n += k,
             Err(e) => {
                 if e.kind() != ErrorKind::Interrupted {
@@ -60,7 +68,7 @@ fn read_full(from: &mut impl Read, buffer: &mut [u8]) -> io::Result<usize>
             }
         }
     }
-    Ok(n)
+    Err(ErrorKind::TimedOut.into())
 }
 
 // One byte more than a call may have is asked for, so that a longer input is seen to be longer.
