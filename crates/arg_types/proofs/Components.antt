@@ -1,6 +1,6 @@
 -- The components that types bring to a vector: their kind, and their number.
-use mathlib.Core.Path.{◌≡◌, sym, ap, ◌∙◌}
-use mathlib.Core.Option.{Option, none, some}
+use mathlib.Core.Path.{◌≡◌, refl, sym, ap, ◌∙◌}
+use mathlib.Core.Option.{Option as Maybe, none, some}
 use mathlib.Core.List.{List, [], ◌∷◌}
 use mathlib.Core.Bool.{Bool, true, false}
 use Prim.Native.Nat.{ℕ, ◌+◌, ◌≤◌}
@@ -18,19 +18,20 @@ use Rattle.laws.proofs.AgreeConv.{none_some}
 use Rattle.laws.proofs.Sound.{some_inj}
 use Rattle.ty.specs.Stands.{Stands}
 use Rattle.ty.proofs.Bottom.{KindIs}
-use Rattle.shape.specs.declared.Found.{Found}
-use Rattle.shape.specs.declared.Found.TheVariants.{Kind as Is, Nothing}
 use Rattle.shape.proofs.KindsFound.{found_kind, found_none}
 use Rattle.arg_types.specs.Components.{ComponentKind, Passes}
+use Rattle.std.specs.Option.{is_some}
+use Rattle.std.specs.declared.option.Option.{Option}
+use Rattle.std.specs.declared.option.Option.TheVariants.{None, Some}
 
-module _ {s : List ℕ} {i : ℕ} {t : Ty} {e : ℕ} (w : Stands 15 s i t e) {r : Found} (f : ComponentKind s i r) where
-  pub part_some : {k : ℕ} → r ≡ Is k → KindIs k (part_kind t)
+module _ {s : List ℕ} {i : ℕ} {t : Ty} {e : ℕ} (w : Stands 15 s i t e) {r : Option ℕ} (f : ComponentKind s i r) where
+  pub part_some : {k : ℕ} → r ≡ Some k → KindIs k (part_kind t)
   part_some h = found_kind (part_kind t) (sym h ∙ f t e w)
 
-  pub part_none : r ≡ Nothing → part_kind t ≡ none
+  pub part_none : r ≡ None → part_kind t ≡ none
   part_none h = found_none (part_kind t) (sym h ∙ f t e w)
 
-module _ {o : Option Kind} where
+module _ {o : Maybe Kind} where
   pub same_kind_lem : {k : ℕ} {b : Kind} → KindIs k o → o ≡ some b → k ≡ kind_no b
   same_kind_lem {b = b} x h = let z : x.kind ≡ b = some_inj (sym x.is ∙ h) in x.no ∙ ap kind_no z
 
@@ -38,14 +39,6 @@ module _ {o : Option Kind} where
   no_kind e h = none_some (sym e ∙ h)
 
 module _ (t : Ty) where
-  pub part_is : {k : ℕ} → KindIs k (part_kind t) → Passes 12 (part_of t) true
-  unfolding part_of
-  part_is x = record { value = x.kind; is = rw x.is }
-
-  pub part_not : part_kind t ≡ none → part_of t ≡ no 12
-  unfolding part_of
-  part_not h = rw h
-
   pub to_none : (j : Kind) → part_kind t ≡ none → part_to j t ≡ no 12
   unfolding part_to part_of
   to_none j h = rw h
@@ -54,6 +47,16 @@ module _ (t : Ty) where
   unfolding part_to part_of
   to_kind j x true p = record { value = x.kind; is = rw (x.is, sym p) }
   to_kind j x false p = rw (x.is, sym p)
+
+-- a part is what brings components
+pub passes_part : {s : List ℕ} {i : ℕ} {t : Ty} {e : ℕ} → Stands 15 s i t e → {r : Option ℕ} → ComponentKind s i r
+    → Passes 12 (part_of t) (is_some r)
+unfolding part_of
+passes_part {t = t} w {r} f = go r refl
+  where
+    go : (x : Option ℕ) → r ≡ x → Passes 12 (part_of t) (is_some x)
+    go (Some k) h = let x = part_some w f h in record { value = x.kind; is = rw x.is }
+    go None h = rw (part_none w f h)
 
 -- a component takes a byte at least
 pub count_small : (t : Ty) → T (shaped_ty t) → part_count t ≤ length (ty_bytes t)
@@ -70,9 +73,6 @@ Adds i sum n l = (sum ≤ i) × (sum + total l ≡ n)
 
 module _ {s : List ℕ} {i sum n : ℕ} {t : Ty} (l : List Ty) {e c : ℕ} (w : Stands 15 s i t e) (q : Adds i sum n (t ∷ l))
     (p : c ≡ part_count t) where
-  pub adds_small : sum + c ≤ length s
-  adds_small = omega (arith, q.0, w.size, w.within, count_small t w.shaped)
-
   pub adds_on : Adds e (sum + c) n l
   unfolding total
   adds_on = (omega (arith, q.0, w.size, count_small t w.shaped), omega (arith, q.1))

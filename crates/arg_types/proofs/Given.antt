@@ -55,6 +55,3 @@ module _ {args : List ℕ} {n : ℕ} {l : List Ty} (g : Given args n l) where
 
   pub given_some : (n ≡ 0 → ⊥) → l ≡ [] → ⊥
   given_some f e = f (g.count ∙ ap length e)
-
-pub two_least : {n : ℕ} → (n ≡ 0 → ⊥) → (n ≡ 1 → ⊥) → 2 ≤ n
-two_least f g = omega arith

@@ -1,6 +1,6 @@
 -- The common kind of the components: the kind so far and the kinds that are left come to the whole.
 use mathlib.Core.Path.{◌≡◌, refl, sym, ap, ◌∙◌}
-use mathlib.Core.Option.{Option, none, some}
+use mathlib.Core.Option.{Option as Maybe, none, some}
 use mathlib.Core.List.{List, [], ◌∷◌, map}
 use Prim.Native.Nat.{ℕ}
 use native.Mathlib.Omega.{arith}
@@ -15,30 +15,30 @@ use Rattle.laws.proofs.Named.{ok_inj, no_ok}
 use Rattle.ty.specs.Stands.{Stands, Standing}
 use Rattle.shape.specs.Kinds.{found_of, meet_kind}
 use Rattle.shape.specs.TypeRows.{EndsAt, TypeRow}
-use Rattle.shape.specs.declared.Found.{Found}
-use Rattle.shape.specs.declared.Found.TheVariants.{Kind as Is, Nothing}
 use Rattle.shape.proofs.KindsFound.{found_kind, found_none, kinds_meet}
 use Rattle.shape.proofs.TypeRows.{type_stands, type_standing, type_rest}
 use Rattle.arg_types.specs.Components.{ComponentKind, MeetPart, PartKinds, meet_some, common_kind_from}
+use Rattle.std.specs.declared.option.Option.{Option}
+use Rattle.std.specs.declared.option.Option.TheVariants.{None, Some}
 
 from_no : (l : List Kind) → common_kind_from none l ≡ none
 unfolding common_kind_from meet_some
 from_no [] = refl
 from_no (k ∷ l) = from_no l
 
-meets : (o : Option Kind) (k : Kind) → meet (map_some Ts o) (Ts k) ≡ map_some Ts (meet_some o k)
+meets : (o : Maybe Kind) (k : Kind) → meet (map_some Ts o) (Ts k) ≡ map_some Ts (meet_some o k)
 unfolding meet map_some meet_some
 meets none k = refl
 meets (some j) k = kinds_meet j k
 
 -- it is the common type of the scalars
-pub kinds_common : (o : Option Kind) (l : List Kind) → common_from (map_some Ts o) (map Ts l) ≡ map_some Ts (common_kind_from o l)
+pub kinds_common : (o : Maybe Kind) (l : List Kind) → common_from (map_some Ts o) (map Ts l) ≡ map_some Ts (common_kind_from o l)
 unfolding common_from common_kind_from
 kinds_common o [] = refl
-kinds_common o (k ∷ l) = ap (λ (x : Option Ty). common_from x (map Ts l)) (meets o k) ∙ kinds_common (meet_some o k) l
+kinds_common o (k ∷ l) = ap (λ (x : Maybe Ty). common_from x (map Ts l)) (meets o k) ∙ kinds_common (meet_some o k) l
 
 -- the kind so far, and the kinds that the types l bring
-pub record KindsLeft (k : ℕ) (o : Option Kind) (l : List Ty) : Type 0 where
+pub record KindsLeft (k : ℕ) (o : Maybe Kind) (l : List Ty) : Type 0 where
   pub kind : Kind
   pub no : k ≡ kind_no kind
   pub kinds : List Kind
@@ -57,7 +57,7 @@ pub split_kinds : (t : Ty) (l : List Ty) {ks : List Kind} → all part_of (t ∷
 unfolding all part_of
 split_kinds t l {ks} h = go (part_kind t) (all part_of l) refl refl h
   where
-    go : (o : Option Kind) (x : Result (List Kind)) → part_kind t ≡ o → all part_of l ≡ x
+    go : (o : Maybe Kind) (x : Result (List Kind)) → part_kind t ≡ o → all part_of l ≡ x
         → (or_no 12 o >>= λ b. x >>= λ bs. ok (b ∷ bs)) ≡ ok ks → Split t l ks
     go none x e f q = no_ok q
     go (some j) (ok js) e f q = record { head = j; tail = js; is = sym (ok_inj q); part = e; parts = f }
@@ -88,25 +88,25 @@ module _ {s : List ℕ} {l : List Ty} {k : Kind} {ks : List Kind} (x : PartKinds
   pub parts_standing : Standing 15 s 0
   parts_standing = type_standing begins.row
 
-  module _ {r : Found} (f : ComponentKind s 0 r) where
+  module _ {r : Option ℕ} (f : ComponentKind s 0 r) where
     is_first : r ≡ found_of (some k)
     is_first = f begins.type _ (type_stands begins.row) ∙ ap found_of begins.part
 
-    pub parts_none : r ≡ Nothing → ⊥
+    pub parts_none : r ≡ None → ⊥
     unfolding found_of
-    parts_none h = let z : Nothing ≡ Is (kind_no k) = sym h ∙ is_first in let z : ◌≡◌ {A = ℕ} 0 1 = cc in omega arith
+    parts_none h = let z : None ≡ Some (kind_no k) = sym h ∙ is_first in let z : ◌≡◌ {A = ℕ} 0 1 = cc in omega arith
 
-    pub kind_start : {c e : ℕ} → r ≡ Is c → EndsAt 15 s 0 e → Left (TypeRow s) e (KindsLeft c (common_kind_from (some k) ks))
+    pub kind_start : {c e : ℕ} → r ≡ Some c → EndsAt 15 s 0 e → Left (TypeRow s) e (KindsLeft c (common_kind_from (some k) ks))
     unfolding found_of
     kind_start {c} h y =
-        let z : Is c ≡ Is (kind_no k) = sym h ∙ is_first in
+        let z : Some c ≡ Some (kind_no k) = sym h ∙ is_first in
         record {
           items = begins.others;
           row = type_rest begins.row y;
           so = record { kind = k; no = cc; kinds = ks; parts = begins.parts; same = refl };
         }
 
-module _ {k : ℕ} {o : Option Kind} {t : Ty} {l : List Ty} (g : KindsLeft k o (t ∷ l)) where
+module _ {k : ℕ} {o : Maybe Kind} {t : Ty} {l : List Ty} (g : KindsLeft k o (t ∷ l)) where
   kinds : Split t l g.kinds
   kinds = split_kinds t l g.parts
 
@@ -114,19 +114,19 @@ module _ {k : ℕ} {o : Option Kind} {t : Ty} {l : List Ty} (g : KindsLeft k o (
   unfolding common_kind_from meet_some
   folded = rw kinds.is at g.same
 
-  module _ {s : List ℕ} {i e : ℕ} (w : Stands 15 s i t e) {r : Found} (f : MeetPart k s i r) where
+  module _ {s : List ℕ} {i e : ℕ} (w : Stands 15 s i t e) {r : Option ℕ} (f : MeetPart k s i r) where
     met : r ≡ found_of (meet_kind g.kind kinds.head)
     met = f g.kind kinds.head t e g.no w kinds.part
 
-    pub kind_no_lem : r ≡ Nothing → Nothing ≡ found_of o
+    pub kind_no_lem : r ≡ None → None ≡ found_of o
     unfolding found_of
     kind_no_lem q = ap found_of (sym (from_no kinds.tail) ∙ (rw (found_none (meet_kind g.kind kinds.head) (sym q ∙ met)) at folded))
 
-    pub kind_on : {m : ℕ} → r ≡ Is m → KindsLeft m o l
+    pub kind_on : {m : ℕ} → r ≡ Some m → KindsLeft m o l
     kind_on q =
         let x = found_kind (meet_kind g.kind kinds.head) (sym q ∙ met) in
         record { kind = x.kind; no = x.no; kinds = kinds.tail; parts = kinds.parts; same = rw x.is at folded }
 
-pub kind_end : {k : ℕ} {o : Option Kind} → KindsLeft k o [] → Is k ≡ found_of o
+pub kind_end : {k : ℕ} {o : Maybe Kind} → KindsLeft k o [] → Some k ≡ found_of o
 unfolding all found_of common_kind_from
-kind_end {o = o} g = let b : some g.kind ≡ o = rw (sym (ok_inj g.parts)) at g.same in ap Is g.no ∙ ap found_of b
+kind_end {o = o} g = let b : some g.kind ≡ o = rw (sym (ok_inj g.parts)) at g.same in ap Some g.no ∙ ap found_of b

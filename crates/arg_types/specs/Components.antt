@@ -1,6 +1,6 @@
 -- The components that the arguments' types bring to a vector.
 use Rattle.std.specs.Prelude.{◌≡◌, List, [], ◌∷◌, Bool, true, false, ℕ}
-use Rattle.std.proofs.Math.Option.{Option, none, some}
+use Rattle.std.proofs.Math.Option.{Option as Maybe, none, some}
 use Rattle.meaning.specs.Kinds.{Kind, kind_no}
 use Rattle.meaning.specs.Trees.{Ty}
 use Rattle.meaning.specs.Answers.{Result, ok, no, all}
@@ -8,10 +8,10 @@ use Rattle.meaning.specs.Typing.{part_kind, part_count, part_of, part_to, total}
 use Rattle.ty.specs.Stands.{Stands}
 use Rattle.shape.specs.TypeRows.{TypeRow}
 use Rattle.shape.specs.Kinds.{found_of, meet_kind}
-use Rattle.shape.specs.declared.Found.{Found}
+use Rattle.std.specs.declared.option.Option.{Option}
 
 -- the kind, and the number, of the components that the type at i brings
-abbrev pub ComponentKind : List ℕ → ℕ → Found → Type 0
+abbrev pub ComponentKind : List ℕ → ℕ → Option ℕ → Type 0
 ComponentKind s i r = (t : Ty) (e : ℕ) → Stands 15 s i t e → r ≡ found_of (part_kind t)
 
 abbrev pub ComponentCount : List ℕ → ℕ → ℕ → Type 0
@@ -45,15 +45,15 @@ TotalIs s r = (l : List Ty) → TypeRow s 0 l → r ≡ total l
 
 -- ---- the common kind of the components, as the source folds types, pair by pair
 
-unfoldable pub meet_some : Option Kind → Kind → Option Kind
+unfoldable pub meet_some : Maybe Kind → Kind → Maybe Kind
 meet_some none b = none
 meet_some (some a) b = meet_kind a b
 
-unfoldable pub common_kind_from : Option Kind → List Kind → Option Kind
+unfoldable pub common_kind_from : Maybe Kind → List Kind → Maybe Kind
 common_kind_from a [] = a
 common_kind_from a (b ∷ l) = common_kind_from (meet_some a b) l
 
-abbrev pub MeetPart : ℕ → List ℕ → ℕ → Found → Type 0
+abbrev pub MeetPart : ℕ → List ℕ → ℕ → Option ℕ → Type 0
 MeetPart k s i r = (a b : Kind) (t : Ty) (e : ℕ) → k ≡ kind_no a → Stands 15 s i t e → part_kind t ≡ some b → r ≡ found_of (meet_kind a b)
 
 -- the types l, at least one, bring components of the kinds k and ks
@@ -67,5 +67,5 @@ pub record SomeParts (s : List ℕ) : Type 0 where
   pub others : List Kind
   pub kinds : PartKinds s types first others
 
-abbrev pub CommonKind : List ℕ → Found → Type 0
+abbrev pub CommonKind : List ℕ → Option ℕ → Type 0
 CommonKind s r = (l : List Ty) (k : Kind) (ks : List Kind) → PartKinds s l k ks → r ≡ found_of (common_kind_from (some k) ks)

@@ -1,15 +1,11 @@
--- The arguments of typing, which are types in a row: how many, whether they convert, and the one that is a matrix.
-use Rattle.std.specs.Prelude.{◌≡◌, List, Bool, false, ℕ, length}
-use Rattle.meaning.specs.Kinds.{Kind, kind_no}
-use Rattle.meaning.specs.Trees.{Ty, Tm}
+-- The arguments of typing, which are types in a row: how many, and whether they convert.
+use Rattle.std.specs.Prelude.{◌≡◌, List, Bool, ℕ, length}
+use Rattle.meaning.specs.Trees.{Ty}
 use Rattle.meaning.specs.Records.{every}
 use Rattle.meaning.specs.Convert.{converts}
-use Rattle.meaning.specs.Build.{same_size}
 use Rattle.meaning.specs.Typing.{memberwise_ty}
-use Rattle.ty.specs.Stands.{Stands, Whole}
+use Rattle.ty.specs.Stands.{Stands}
 use Rattle.shape.specs.TypeRows.{TypeRow}
-use Rattle.arg_types.specs.declared.Single.{Single}
-use Rattle.arg_types.specs.declared.Single.TheVariants.{Like, Unlike, Other}
 
 -- the arguments are the types l, as many as n
 pub record Given (args : List ℕ) (n : ℕ) (l : List Ty) : Type 0 where
@@ -43,14 +39,3 @@ pub record SomeMembers (args target : List ℕ) : Type 0 where
 
 abbrev pub MemberTypesConvert : List ℕ → List ℕ → Bool → Type 0
 MemberTypesConvert args target r = (l m : List Ty) → Members args target l m → r ≡ memberwise_ty m l
-
--- ---- one argument where a matrix is asked for
-
--- the one type t is a matrix of c columns and r rows, and of the kind whose number k is; or of another size; or no matrix
-abbrev pub LikeIs : ℕ → ℕ → Ty → Single → Type 0
-LikeIs c r t (Like k) = (j : Kind) × (k ≡ kind_no j) × (t ≡ Tm c r j)
-LikeIs c r t Unlike = (a : ℕ) × (b : ℕ) × (j : Kind) × (t ≡ Tm a b j) × (same_size c r a b ≡ false)
-LikeIs c r t Other = (a b : ℕ) (j : Kind) → t ≡ Tm a b j → ⊥
-
-abbrev pub Singles : ℕ → ℕ → List ℕ → Single → Type 0
-Singles c r args x = (t : Ty) → Whole args t → LikeIs c r t x

@@ -2,36 +2,25 @@
 #![tactic(auto)]
 
 ghost use Rattle.std.specs.Prelude.{length};
-ghost use Rattle.ty.specs.Stands.{Standing, Ends, OneType};
+ghost use Rattle.ty.specs.Stands.{Standing, Ends};
 ghost use Rattle.shape.specs.TypeRows.{SomeTypeRow};
 ghost use Rattle.arg_types.specs.Components.{ComponentKind, ComponentCount, PartTo, PartsTo, PartOf, PartsOf, TotalIs, MeetPart};
 ghost use Rattle.arg_types.specs.Components.{SomeParts, CommonKind};
-ghost use Rattle.arg_types.specs.Given.{ConvertsAt, TypesConvert, SomeMembers, MemberTypesConvert, Singles};
+ghost use Rattle.arg_types.specs.Given.{ConvertsAt, TypesConvert, SomeMembers, MemberTypesConvert};
 
-use shape::Found;
 use ty::{Head, Limit};
-
-// One argument where a matrix is asked for: one of the size, and its kind; another matrix; or no matrix.
-#[derive(Clone, Copy)]
-pub enum Single {
-    Like(u8),
-    Unlike,
-    Other,
-}
 
 // ---- one of the arguments
 
 // The kind of the components that the type at i brings to a vector.
-fn component_kind(s: &[u8], i: usize) -> Found
+fn component_kind(s: &[u8], i: usize) -> Option<u8>
     requires { Standing 15 s.now i }
     ensures { ComponentKind s.now i result }
 {
     match ty::head_at(s, i, Limit::DEPTH) {
-        Head::Scalar(k) => Found::Kind(k),
-        Head::Vector(_, k) => Found::Kind(k),
-        Head::Matrix(_, _, _) => Found::Nothing,
-        Head::Array(_) => Found::Nothing,
-        Head::Struct(_, _) => Found::Nothing,
+        Head::Scalar(k) => Some(k),
+        Head::Vector(_, k) => Some(k),
+        _ => None,
     }
 }
 
@@ -43,31 +32,7 @@ fn component_count(s: &[u8], i: usize) -> u8
     match ty::head_at(s, i, Limit::DEPTH) {
         Head::Scalar(_) => 1,
         Head::Vector(n, _) => n,
-        Head::Matrix(_, _, _) => 0,
-        Head::Array(_) => 0,
-        Head::Struct(_, _) => 0,
-    }
-}
-
-// Whether the one type is a matrix, and of c columns and r rows.
-pub fn one_matrix(c: u8, r: u8, args: &[u8]) -> Single
-    requires { OneType args.now }
-    ensures { Singles c r args.now result }
-{
-    match ty::head_at(args, 0, Limit::DEPTH) {
-        Head::Matrix(a, b, k) => {
-            if a != c {
-                return Single::Unlike;
-            }
-            if b != r {
-                return Single::Unlike;
-            }
-            Single::Like(k)
-        }
-        Head::Scalar(_) => Single::Other,
-        Head::Vector(_, _) => Single::Other,
-        Head::Array(_) => Single::Other,
-        Head::Struct(_, _) => Single::Other,
+        _ => 0,
     }
 }
 
@@ -86,8 +51,8 @@ fn part_converts(args: &[u8], i: usize, k: u8) -> bool
     ensures { PartTo k args.now i result }
 {
     match component_kind(args, i) {
-        Found::Kind(j) => rank::kind_converts(j, k),
-        Found::Nothing => false,
+        Some(j) => rank::kind_converts(j, k),
+        None => false,
     }
 }
 
@@ -96,21 +61,15 @@ fn is_part(args: &[u8], i: usize) -> bool
     requires { Standing 15 args.now i }
     ensures { PartOf args.now i result }
 {
-    match component_kind(args, i) {
-        Found::Kind(_) => true,
-        Found::Nothing => false,
-    }
+    component_kind(args, i).is_some()
 }
 
 // The common kind of the kind so far and the one that the type at i brings.
-fn meet_part(k: u8, args: &[u8], i: usize) -> Found
+fn meet_part(k: u8, args: &[u8], i: usize) -> Option<u8>
     requires { Standing 15 args.now i }
     ensures { MeetPart k args.now i result }
 {
-    match component_kind(args, i) {
-        Found::Kind(j) => shape::meet_kinds(k, j),
-        Found::Nothing => Found::Nothing,
-    }
+    shape::meet_kinds(k, component_kind(args, i)?)
 }
 
 // ---- all of the arguments
@@ -196,25 +155,15 @@ pub fn total(args: &[u8]) -> usize
 }
 
 // The common kind of the components.
-pub fn common_kind(args: &[u8]) -> Found
+pub fn common_kind(args: &[u8]) -> Option<u8>
     requires { SomeParts args.now }
     ensures { CommonKind args.now result }
 {
-    let Found::Kind(first) = component_kind(args, 0) else {
-        return Found::Nothing;
-    };
-    let mut k = first;
+    let mut k = component_kind(args, 0)?;
     let mut i = shape::end_of_type(args, 0, Limit::DEPTH);
     while i < args.len() {
-        match meet_part(k, args, i) {
-            Found::Kind(m) => {
-                k = m;
-            }
-            Found::Nothing => {
-                return Found::Nothing;
-            }
-        }
+        k = meet_part(k, args, i)?;
         i = shape::end_of_type(args, i, Limit::DEPTH);
     }
-    Found::Kind(k)
+    Some(k)
 }

@@ -9,12 +9,12 @@ use Rattle.meaning.specs.Answers.{Result, ok}
 use Rattle.meaning.specs.Entries.{hand_val}
 use Rattle.laws.proofs.Length.{val_len_lem}
 use Rattle.error.specs.Told.{Told, Builds}
-use Rattle.error.specs.declared.Written.{Written}
 use Rattle.error.proofs.Told.{told_as}
 use Rattle.args.specs.Row.{Row}
 use Rattle.error.specs.Hand.{handed}
 use Rattle.error.proofs.BufferAtExit.{builds_as}
 use Rattle.args.proofs.ArgumentRows.{row_shaped}
+use Rattle.error.specs.Told.{Written}
 
 module _ {s : List ℕ} {v : Val} (x : Row s 0 (v ∷ [])) where
   pub one_bytes : s ≡ val_bytes v

@@ -1,6 +1,6 @@
 -- Records one after another, up to the end of the bytes.
 use mathlib.Core.Path.{◌≡◌, refl, sym, ap, ◌∙◌, subst}
-use mathlib.Core.Option.{Option, none, some}
+use mathlib.Core.Option.{Option as Maybe, none, some}
 use mathlib.Core.Bool.{Bool, true, false, ◌&&◌}
 use mathlib.Core.List.{List, [], ◌∷◌, ◌++◌, map}
 use Prim.Native.Nat.{ℕ, suc, ◌+◌, ◌-◌, ◌≤◌, ◌<◌}
@@ -22,18 +22,16 @@ use Rattle.ty.specs.Stands.{Stands}
 use Rattle.record.proofs.Places.{past}
 use Rattle.ty.specs.TypeFronts.{kind_number}
 use Rattle.ty.proofs.Numbers.{kind_of_lem, is_number}
-use Rattle.ty.specs.Targets.{target_of, is_bad}
-use Rattle.ty.proofs.Targets.{SomeTarget, some_target}
+use Rattle.ty.specs.Targets.{seen, target_of}
+use Rattle.ty.proofs.Targets.{some_target}
 use Rattle.ty.specs.declared.Target as ty
 use Rattle.inst.specs.Values.{Fits, Typed}
 use Rattle.inst.specs.Reading.{Told, LiteralAt}
 use Rattle.derive.specs.Derives.{LeafFront}
-use Rattle.inst.specs.declared.ValueEnd.{ValueEnd}
-use Rattle.inst.specs.declared.ValueEnd.TheVariants.{At, Bad as Unended}
 use Rattle.args.specs.Counts.{is_qa, is_tight, depth_for, bytes_for, args_of, Rests, Left, ValueArg, TypeArg, Counts, Flat, FlatIs}
 use Rattle.args.specs.Counts.{FlatLeft}
-use Rattle.args.specs.declared.Args.{Args}
-use Rattle.args.specs.declared.Args.TheVariants.{Count, Bad}
+use Rattle.std.specs.declared.option.Option.{Option}
+use Rattle.std.specs.declared.option.Option.TheVariants.{None, Some}
 
 -- ---- one record, and the others
 
@@ -129,16 +127,17 @@ module _ {A : Type 0} (write : A → List ℕ) (P : A → Type 0) (s : List ℕ)
       let k : n + 0 ≡ n = omega arith in
       (rw k at (l.more 0 record { items = []; here = rw (j, drop-length s); each = tt; count = refl }), l.few)
 
+module _ {A : Type 0} {write : A → List ℕ} {P : A → Type 0} {s : List ℕ} {i n : ℕ} (l : Left write P s i n) (h : i < length s) where
   -- no more than 65,535
-  pub left_full : (i n : ℕ) → Left write P s i n → i < length s → n ≡ 65535 → (k : ℕ) → k ≤ 65535 → Rests write P s 0 k → ⊥
-  left_full i n l h f k b w =
+  pub left_full : 65535 ≤ n → (k : ℕ) → k ≤ 65535 → Rests write P s 0 k → ⊥
+  left_full f k b w =
       let r = l.less k w in
-      let o = some_rests i h (k - n) r.1 in
+      let o = some_rests write P s i h (k - n) r.1 in
       omega (arith, r.0)
 
   -- none stands at i
-  pub left_bad : (i n : ℕ) → Left write P s i n → i < length s → (Head i → ⊥) → (k : ℕ) → k ≤ 65535 → Rests write P s 0 k → ⊥
-  left_bad i n l h f k b w = f (head i h (k - n) (l.less k w).1)
+  pub left_bad : (Head write P s i → ⊥) → (k : ℕ) → k ≤ 65535 → Rests write P s 0 k → ⊥
+  left_bad f k b w = f (head write P s i h (k - n) (l.less k w).1)
 
 -- ---- types and values
 
@@ -148,7 +147,7 @@ module _ (d m : ℕ) where
 
   pub type_tells : Tells ty_bytes (TypeArg d m)
   type_tells a b x y p q e =
-      ap (λ (o : Option (Ty × List ℕ)). let v : Ty = elim o [ none ↦ a | some r ↦ r.0 ] in v)
+      ap (λ (o : Maybe (Ty × List ℕ)). let v : Ty = elim o [ none ↦ a | some r ↦ r.0 ] in v)
       (sym (ty_back' a x p) ∙ (ap (p_ty (suc d)) e ∙ ty_back' b y q))
 
   val_back' : (v : Val) (x : List ℕ) → ValueArg d m v → p_val (suc d) (val_bytes v ++ x) ≡ some (v, x)
@@ -156,7 +155,7 @@ module _ (d m : ℕ) where
 
   pub value_tells : Tells val_bytes (ValueArg d m)
   value_tells a b x y p q e =
-      ap (λ (o : Option (Val × List ℕ)). let v : Val = elim o [ none ↦ a | some r ↦ r.0 ] in v)
+      ap (λ (o : Maybe (Val × List ℕ)). let v : Val = elim o [ none ↦ a | some r ↦ r.0 ] in v)
       (sym (val_back' a x p) ∙ (ap (p_val (suc d)) e ∙ val_back' b y q))
 
   pub short_of : (t : Ty) → T (good_within d m t) → length (ty_bytes t) ≤ m
@@ -175,8 +174,8 @@ module _ (d m : ℕ) where
     pub stands : Stands d s i type (i + length (ty_bytes type))
     pub short : length (ty_bytes type) ≤ m
 
-  pub type_head : (s : List ℕ) (i : ℕ) → Head ty_bytes (TypeArg d m) s i → TypeHead s i
-  type_head s i h =
+  pub type_head : {s : List ℕ} {i : ℕ} → Head ty_bytes (TypeArg d m) s i → TypeHead s i
+  type_head h =
       let t = h.item in
       record {
         type = t;
@@ -196,8 +195,8 @@ module _ (d m : ℕ) where
     pub typed : Typed d s i type end
     pub short : length (ty_bytes type) ≤ m
 
-  pub value_head : (s : List ℕ) (i : ℕ) → Head val_bytes (ValueArg d m) s i → ValueHead s i
-  value_head s i h =
+  pub value_head : {s : List ℕ} {i : ℕ} → Head val_bytes (ValueArg d m) s i → ValueHead s i
+  value_head {i = i} h =
       let v = h.item in
       let p = h.so in
       record {
@@ -212,14 +211,14 @@ module _ (d m : ℕ) where
       }
 
   -- one more was read
-  pub type_left : (s : List ℕ) (i n : ℕ) → Left ty_bytes (TypeArg d m) s i n → i < length s → n < 65535 → (t : Ty) (e : ℕ)
+  pub type_left : {s : List ℕ} {i n : ℕ} → Left ty_bytes (TypeArg d m) s i n → i < length s → n < 65535 → {t : Ty} {e : ℕ}
       → Stands d s i t e → length (ty_bytes t) ≤ m → Left ty_bytes (TypeArg d m) s e (n + 1)
-  type_left s i n l h f t e w b = left_on ty_bytes (TypeArg d m) s type_tells i n l h f t (within_of t w.shaped w.deep b) e w.size
+  type_left {s} {i} {n} l h f {t} {e} w b = left_on ty_bytes (TypeArg d m) s type_tells i n l h f t (within_of t w.shaped w.deep b) e w.size
       w.within w.here
 
-  pub value_left : (s : List ℕ) (i n : ℕ) → Left val_bytes (ValueArg d m) s i n → i < length s → n < 65535 → (t : Ty) (e : ℕ)
+  pub value_left : {s : List ℕ} {i n : ℕ} → Left val_bytes (ValueArg d m) s i n → i < length s → n < 65535 → {t : Ty} {e : ℕ}
       → Typed d s i t e → length (ty_bytes t) ≤ m → Left val_bytes (ValueArg d m) s e (n + 1)
-  value_left s i n l h f t e w b =
+  value_left {s} {i} {n} l h f {t} {e} w b =
       let v = w.fits in
       let g : T (good_within d m (type_of v.value)) = subst (λ (u : Ty). T (good_within d m u)) (sym v.type)
       (within_of t w.shaped w.deep b) in
@@ -229,36 +228,32 @@ module _ (d m : ℕ) where
 
 -- a type within the limits, and what was told of a value of it
 module _ (s : List ℕ) (at : ℕ) (t : Ty) (p : T (shaped_ty t)) (q : depth t ≤ 2) (h : length (ty_bytes t) ≤ 7) where
-  flat_as : (r : ValueEnd) → Told (Fits s at t) r → Flat s at r
-  flat_as (At e) w = record { type = t; typed = record { fits = w; shaped = p; deep = q }; short = h }
-  flat_as Unended w = tt
+  flat_as : (r : Option ℕ) → Told (Fits s at t) r → Flat s at r
+  flat_as (Some e) w = record { type = t; typed = record { fits = w; shaped = p; deep = q }; short = h }
+  flat_as None w = tt
 
-module _ {s : List ℕ} {at k : ℕ} (g : Kind → Ty) (f : LeafFront 2 s at g k) where
+module _ {s : List ℕ} {at k : ℕ} {g : Kind → Ty} (f : LeafFront 2 s at g k) where
   pub flat_kind : T (kind_number k)
   flat_kind = subst (λ (n : ℕ). T (kind_number n)) (sym f.no) (is_number f.kind)
 
-  pub flat_of : (r : ValueEnd) → ((j : Kind) → length (ty_bytes (g j)) ≤ 7) → Told (Fits s at (g f.kind)) r → Flat s at r
+  pub flat_of : (r : Option ℕ) → ((j : Kind) → length (ty_bytes (g j)) ≤ 7) → Told (Fits s at (g f.kind)) r → Flat s at r
   flat_of r h w = flat_as s at (g f.kind) f.shaped f.deep (h f.kind) r w
 
 -- a literal is such an argument, whatever its kind
-pub flat_literal : (s : List ℕ) (at : ℕ) {k : ℕ} → T (kind_number k) → (r : ValueEnd) → LiteralAt s at k r → Flat s at r
+pub flat_literal : (s : List ℕ) (at : ℕ) {k : ℕ} → T (kind_number k) → (r : Option ℕ) → LiteralAt s at k r → Flat s at r
 unfolding ty_bytes shaped_ty depth
 flat_literal s at {k} h r w = let j = kind_of_lem k h in flat_as s at (Ts j.kind) tt (omega arith) (omega arith) r (w j.kind j.no)
 
 -- one more was read
-pub flat_all : (s : List ℕ) → FlatLeft s 0 0
-flat_all s d m g h = left_all val_bytes (ValueArg d m) s
-
 pub flat_left : {s : List ℕ} {i n e : ℕ} → FlatLeft s i n → i < length s → n < 65535 → FlatIs s i e → FlatLeft s e (n + 1)
-flat_left {s} {i} {n} {e} l h f x d m p q =
+flat_left l h f x d m p q =
     let w = x.typed in
-    value_left d m s i n (l d m p q) h f x.type e record { fits = w.fits; shaped = w.shaped; deep = omega (arith, w.deep) }
+    value_left d m (l d m p q) h f record { fits = w.fits; shaped = w.shaped; deep = omega (arith, w.deep) }
     (omega (arith, x.short))
 
 -- ---- the lists that may stand there are those whose records these are
 
-pub tight_is : (g : Target) {r : ty.Target} → r ≡ target_of (some g) → is_qa g ≡ is_tight r
-unfolding target_of
+pub tight_is : (g : Target) {r : ty.Target} → r ≡ seen g → is_qa g ≡ is_tight r
 tight_is (Of t) q = ap is_tight (sym q)
 tight_is (Tr t) q = ap is_tight (sym q)
 tight_is Qa q = ap is_tight (sym q)
@@ -297,20 +292,20 @@ all_every f P h [] g = tt
 all_every f P h (a ∷ l) g = both (f a) (every f l) (h a g.0) (all_every f P h l g.1)
 
 -- from the number that was counted to what is read
-exactly : {A : Type 0} (good : List A → Bool) (write : A → List ℕ) (read : List ℕ → Option (List A)) (P : A → Type 0)
+exactly : {A : Type 0} (good : List A → Bool) (write : A → List ℕ) (read : List ℕ → Maybe (List A)) (P : A → Type 0)
     → Exactly good (joined write) read
     → ((l : List A) → All P l → length l ≤ 65535 → T (good l)) → ((l : List A) → T (good l) → All P l × (length l ≤ 65535))
-    → (s : List ℕ) → Bytes s → (r : Args) → Counts (Rests write P s 0) r → r ≡ args_of (read s)
+    → (s : List ℕ) → Bytes s → (r : Option ℕ) → Counts (Rests write P s 0) r → r ≡ args_of (read s)
 unfolding args_of
-exactly good write read P x f g s b (Count n) c =
+exactly good write read P x f g s b (Some n) c =
     let w = c.0 in
     let i : length w.items ≡ n = w.count in
     let l = c.1 in
     let y : read s ≡ some w.items = ap read w.here ∙ x.back w.items (f w.items w.each (omega arith)) in
     rw (y, i)
-exactly {A} good write read P x f g s b Bad c = go (read s) refl
+exactly {A} good write read P x f g s b None c = go (read s) refl
   where
-    go : (o : Option (List A)) → read s ≡ o → Bad ≡ args_of o
+    go : (o : Maybe (List A)) → read s ≡ o → None ≡ args_of o
     go none e = refl
     go (some l) e =
         let y = x.sound s l b e in
@@ -330,7 +325,7 @@ module _ (g : Target) where
   unfolding good_tys
   limited l h i = both (every (good_arg g) l) (leb (length l) 65535) h (le→leb (length l) 65535 i)
 
-  pub types_read : (s : List ℕ) → Bytes s → (r : Args) → Counts (Rests ty_bytes (TypeArg (depth_for (is_qa g)) (bytes_for (is_qa g))) s 0) r
+  pub types_read : (s : List ℕ) → Bytes s → (r : Option ℕ) → Counts (Rests ty_bytes (TypeArg (depth_for (is_qa g)) (bytes_for (is_qa g))) s 0) r
       → r ≡ args_of (read_tys g s)
   types_read =
       exactly (good_tys g) ty_bytes (read_tys g) (TypeArg (depth_for (is_qa g)) (bytes_for (is_qa g))) (tys_exact g)
@@ -369,7 +364,7 @@ module _ (g : Target) where
   unfolding good_val
   good_value v p = both (shaped_val v) (good_ty (type_of v)) p.0 (good_ty_lem (type_of v) (subst T (sym (arg_is g (type_of v))) p.1))
 
-  pub values_read : (s : List ℕ) → Bytes s → (r : Args) → Counts (Rests val_bytes (ValueArg (depth_for (is_qa g)) (bytes_for (is_qa g))) s 0) r
+  pub values_read : (s : List ℕ) → Bytes s → (r : Option ℕ) → Counts (Rests val_bytes (ValueArg (depth_for (is_qa g)) (bytes_for (is_qa g))) s 0) r
       → r ≡ args_of (read_vals g s)
   unfolding good_args
   values_read =
@@ -383,7 +378,7 @@ module _ (g : Target) where
 -- ---- what an answer says, for callers
 
 -- the target that is read, and n arguments for it
-pub record BothRead {A : Type 0} (read : Target → List ℕ → Option (List A)) (target s : List ℕ) (n : ℕ) : Type 0 where
+pub record BothRead {A : Type 0} (read : Target → List ℕ → Maybe (List A)) (target s : List ℕ) (n : ℕ) : Type 0 where
   pub for : Target
   pub reads : read_target target ≡ some for
   pub items : List A
@@ -391,32 +386,32 @@ pub record BothRead {A : Type 0} (read : Target → List ℕ → Option (List A)
   pub count : n ≡ length items
 
 -- the target that is read, and bad arguments for it
-pub record NoneRead {A : Type 0} (read : Target → List ℕ → Option (List A)) (target s : List ℕ) : Type 0 where
+pub record NoneRead {A : Type 0} (read : Target → List ℕ → Maybe (List A)) (target s : List ℕ) : Type 0 where
   pub for : Target
   pub reads : read_target target ≡ some for
   pub bad : read for s ≡ none
 
-module _ {A : Type 0} (read : Target → List ℕ → Option (List A)) (target s : List ℕ) {found : ty.Target}
-    (q : found ≡ target_of (read_target target)) (h : is_bad found ≡ false) {r : Args}
-    (f : (g : Target) → found ≡ target_of (some g) → r ≡ args_of (read g s)) where
-  read_for : SomeTarget target
+module _ {A : Type 0} (read : Target → List ℕ → Maybe (List A)) (target s : List ℕ) {o : Option ty.Target} {found : ty.Target}
+    (q : o ≡ target_of (read_target target)) (h : o ≡ Some found) {r : Option ℕ}
+    (f : (g : Target) → found ≡ seen g → r ≡ args_of (read g s)) where
+  read_for : (g : Target) × (read_target target ≡ some g) × (found ≡ seen g)
   read_for = some_target target q h
 
-  told : r ≡ args_of (read read_for.target s)
-  told = f read_for.target (q ∙ ap target_of read_for.reads)
+  told : r ≡ args_of (read read_for.0 s)
+  told = f read_for.0 read_for.2
 
-  pub both_read : {n : ℕ} → r ≡ Count n → BothRead read target s n
+  pub both_read : {n : ℕ} → r ≡ Some n → BothRead read target s n
   unfolding args_of
-  both_read {n} e = go (read read_for.target s) refl (sym e ∙ told)
+  both_read {n} e = go (read read_for.0 s) refl (sym e ∙ told)
     where
-      go : (o : Option (List A)) → read read_for.target s ≡ o → Count n ≡ args_of o → BothRead read target s n
+      go : (o : Maybe (List A)) → read read_for.0 s ≡ o → Some n ≡ args_of o → BothRead read target s n
       go none k p = absurd (let z : ◌≡◌ {A = ℕ} 0 1 = cc in omega arith)
-      go (some l) k p = record { for = read_for.target; reads = read_for.reads; items = l; given = k; count = cc }
+      go (some l) k p = record { for = read_for.0; reads = read_for.1; items = l; given = k; count = cc }
 
-  pub none_read : r ≡ Bad → NoneRead read target s
+  pub none_read : r ≡ None → NoneRead read target s
   unfolding args_of
-  none_read e = record { for = read_for.target; reads = read_for.reads; bad = go (read read_for.target s) (sym e ∙ told) }
+  none_read e = record { for = read_for.0; reads = read_for.1; bad = go (read read_for.0 s) (sym e ∙ told) }
     where
-      go : (o : Option (List A)) → Bad ≡ args_of o → o ≡ none
+      go : (o : Maybe (List A)) → None ≡ args_of o → o ≡ none
       go none p = refl
       go (some l) p = absurd (let z : ◌≡◌ {A = ℕ} 0 1 = cc in omega arith)

@@ -1,17 +1,14 @@
 -- The arguments of a call: records one after another, up to the end of the bytes.
 use Rattle.std.specs.Prelude.{◌≡◌, Bool, true, false, List, ℕ, ◌+◌, ◌-◌, ◌≤◌, T, length, drop}
-use Rattle.std.proofs.Math.Option.{Option, none, some}
+use Rattle.std.proofs.Math.Option.{Option as Maybe, none, some}
 use Rattle.meaning.specs.Trees.{Ty, Val, Target, Of, Tr, Qa, Qv, Qm, type_of}
 use Rattle.meaning.specs.Records.{ty_bytes, val_bytes, joined, shaped_val, good_within}
 use Rattle.laws.proofs.Sound.{All}
 use Rattle.ty.specs.declared.Target as ty
-use Rattle.ty.specs.declared.Target.TheVariants as found
 use Rattle.ty.specs.declared.Target.TheVariants.{«Type», Runtime, Array, Vector, Matrix}
 use Rattle.inst.specs.Values.{Typed}
-use Rattle.inst.specs.declared.ValueEnd.{ValueEnd}
-use Rattle.inst.specs.declared.ValueEnd.TheVariants as ends
-use Rattle.args.specs.declared.Args.{Args}
-use Rattle.args.specs.declared.Args.TheVariants.{Count, Bad}
+use Rattle.std.specs.declared.option.Option.{Option}
+use Rattle.std.specs.declared.option.Option.TheVariants.{None, Some}
 
 -- "for `Qa` each argument's type has depth at most 14 and at most 4,092 bytes"
 abbrev pub is_qa : Target → Bool
@@ -28,7 +25,6 @@ is_tight Runtime = false
 is_tight Array = true
 is_tight (Vector n) = false
 is_tight (Matrix c r) = false
-is_tight found.Bad = false
 
 abbrev pub depth_for : Bool → ℕ
 depth_for true = 14
@@ -39,9 +35,9 @@ bytes_for true = 4092
 bytes_for false = 4096
 
 -- how many were read, or that they are malformed
-unfoldable pub args_of : {A : Type 0} → Option (List A) → Args
-args_of none = Bad
-args_of (some l) = Count (length l)
+unfoldable pub args_of : {A : Type 0} → Maybe (List A) → Option ℕ
+args_of none = None
+args_of (some l) = Some (length l)
 
 -- k records from i on up to the end, of items of which P holds
 pub record Rests {A : Type 0} (write : A → List ℕ) (P : A → Type 0) (s : List ℕ) (i k : ℕ) : Type 0 where
@@ -64,9 +60,9 @@ abbrev pub TypeArg : ℕ → ℕ → Ty → Type 0
 TypeArg d m t = T (good_within d m t)
 
 -- a number of at most 65,535 of which X holds, or that there is none
-abbrev pub Counts : (ℕ → Type 0) → Args → Type 0
-Counts X (Count n) = X n × (n ≤ 65535)
-Counts X Bad = (k : ℕ) → k ≤ 65535 → X k → ⊥
+abbrev pub Counts : (ℕ → Type 0) → Option ℕ → Type 0
+Counts X (Some n) = X n × (n ≤ 65535)
+Counts X None = (k : ℕ) → k ≤ 65535 → X k → ⊥
 
 -- ---- arguments whose types have no parts of many kinds: scalars, vectors and matrices
 
@@ -77,9 +73,9 @@ pub record FlatIs (s : List ℕ) (at e : ℕ) : Type 0 where
   pub short : length (ty_bytes type) ≤ 7
 
 -- nothing is said where none was found: the argument is then read in full
-abbrev pub Flat : List ℕ → ℕ → ValueEnd → Type 0
-Flat s at (ends.At e) = FlatIs s at e
-Flat s at ends.Bad = Unit {0}
+abbrev pub Flat : List ℕ → ℕ → Option ℕ → Type 0
+Flat s at (Some e) = FlatIs s at e
+Flat s at None = Unit {0}
 
 -- the first n arguments are such, and end at i
 abbrev pub FlatLeft : List ℕ → ℕ → ℕ → Type 0

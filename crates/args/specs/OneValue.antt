@@ -3,8 +3,8 @@ use Rattle.std.specs.Prelude.{◌≡◌, List, ℕ, T}
 use Rattle.meaning.specs.Trees.{Val, type_of}
 use Rattle.meaning.specs.Records.{val_bytes, good_val}
 use Rattle.ty.specs.Stands.{Stands}
-use Rattle.args.specs.declared.Single.{Single}
-use Rattle.args.specs.declared.Single.TheVariants.{Of as One, Bad}
+use Rattle.std.specs.declared.option.Option.{Option}
+use Rattle.std.specs.declared.option.Option.TheVariants.{None, Some}
 
 -- all of s is the record of the well-formed value v
 pub record OneValue (s : List ℕ) (v : Val) : Type 0 where
@@ -17,6 +17,6 @@ pub record Found (s : List ℕ) (q : ℕ) (ty : List ℕ) : Type 0 where
   pub one : OneValue s value
   pub stands : Stands 15 ty 0 (type_of value) q
 
-abbrev pub Singles : List ℕ → Single → List ℕ → Type 0
-Singles s (One q) ty = Found s q ty
-Singles s Bad ty = (v : Val) → OneValue s v → ⊥
+abbrev pub Singles : List ℕ → Option ℕ → List ℕ → Type 0
+Singles s (Some q) ty = Found s q ty
+Singles s None ty = (v : Val) → OneValue s v → ⊥

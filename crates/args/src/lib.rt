@@ -2,27 +2,18 @@
 #![tactic(auto)]
 
 ghost use Rattle.std.specs.Prelude.{◌≡◌, ◌≤◌, length};
-ghost use Rattle.std.proofs.Math.Option.{some};
 ghost use Rattle.meaning.specs.Trees as trees;
 ghost use Rattle.meaning.specs.Records.{val_bytes, ty_bytes};
 ghost use Rattle.meaning.specs.Read.{read_vals, read_tys};
-ghost use Rattle.ty.specs.Targets.{target_of};
+ghost use Rattle.ty.specs.Targets.{seen};
 ghost use Rattle.args.specs.Counts.{is_tight, depth_for, bytes_for, args_of, Rests, Left, ValueArg, TypeArg, Counts, Flat, FlatLeft};
 ghost use Rattle.args.specs.OneValue.{Singles};
 ghost use Rattle.args.specs.Row.{SomeArg, HeadOf, Skips, Types};
 
-use derive::Front;
-use inst::{Derived, ValueEnd};
-use ty::{Head, Limit, Target, TypeEnd};
+use kind::Scalar;
+use ty::{Head, Limit, Target};
 
 // ---- how many
-
-// How many arguments there are, or that they are malformed.
-#[derive(Clone, Copy)]
-pub enum Args {
-    Count(usize),
-    Bad,
-}
 
 // How many arguments were counted, and where the last of them ends.
 #[derive(Clone, Copy)]
@@ -50,63 +41,57 @@ fn bytes_for(tight: bool) -> usize
     Limit::TYPE_BYTES
 }
 
-// The end of the literal that stands at `at`, if one does. Most arguments are literals, and the third byte of one is its kind.
-fn literal_end(s: &[u8], at: usize) -> ValueEnd
+// The end of the literal that stands at `at`, if one does. Most arguments are literals, and the third byte of one is its
+// kind.
+fn literal_end(s: &[u8], at: usize) -> Option<usize>
     ensures { Flat s.now at result }
 {
     if record::room(s, at) < 3 {
-        return ValueEnd::Bad;
+        return None;
     }
     let k = s[at + 2];
-    if !ty::is_kind(k) {
-        return ValueEnd::Bad;
+    let scalar = Scalar { kind: k };
+    if !scalar.is_kind() {
+        return None;
     }
     inst::literal_as(s, at, k)
 }
 
 // The end of the vector or matrix that stands at `at`. What such a value's type is follows from its first bytes, so its
 // record need not be written.
-fn other_flat_end(s: &[u8], at: usize) -> ValueEnd
+fn other_flat_end(s: &[u8], at: usize) -> Option<usize>
     ensures { Flat s.now at result }
 {
-    match derive::value_front(s, at, 2) {
-        Front::Scalar(_) => ValueEnd::Bad,
-        Front::Vector(n, k) => inst::vector_as(s, at, n, k),
-        Front::Matrix(c, r, k) => inst::matrix_as(s, at, c, r, k),
-        Front::Array(_) => ValueEnd::Bad,
-        Front::Struct(_, _) => ValueEnd::Bad,
-        Front::Neither => ValueEnd::Bad,
+    match derive::value_front(s, at, 2)? {
+        Head::Vector(n, k) => inst::vector_as(s, at, n, k),
+        Head::Matrix(c, r, k) => inst::matrix_as(s, at, c, r, k),
+        _ => None,
     }
 }
 
-// The end of the scalar, vector or matrix that stands at `at`. A literal is looked for first, without asking for the front.
-fn flat_end(s: &[u8], at: usize) -> ValueEnd
+// The end of the scalar, vector or matrix that stands at `at`. A literal is looked for first, without asking for the
+// front.
+fn flat_end(s: &[u8], at: usize) -> Option<usize>
     ensures { Flat s.now at result }
 {
-    match literal_end(s, at) {
-        ValueEnd::At(e) => ValueEnd::At(e),
-        ValueEnd::Bad => other_flat_end(s, at),
+    if let Some(e) = literal_end(s, at) {
+        return Some(e);
     }
+    other_flat_end(s, at)
 }
 
-// The scalars, vectors and matrices that s begins with: all of the arguments, as a rule, and then no room for types is needed.
+// The scalars, vectors and matrices that s begins with: all of the arguments, as a rule, and then no room for types is
+// needed.
 fn flat_args(s: &[u8]) -> Counted
     ensures { FlatLeft s.now result.end result.count }
 {
     let mut i = 0;
     let mut n: usize = 0;
-    while i < s.len() {
-        if n == Limit::ARGUMENTS {
-            return Counted { end: i, count: n };
-        }
-        match flat_end(s, i) {
-            ValueEnd::At(e) => {
-                i = e;
-            }
-            ValueEnd::Bad => {
-                return Counted { end: i, count: n };
-            }
-        }
+    while i < s.len() && n < Limit::ARGUMENTS {
+        let Some(e) = flat_end(s, i) else {
+            break;
+        };
+        i = e;
         n += 1;
     }
     Counted { end: i, count: n }
@@ -114,7 +99,14 @@ fn flat_args(s: &[u8]) -> Counted
 
 // Counts the values that s is, of which `before` end at `from`, each with a type of that depth and that many bytes at
 // most. The types are derived into `ty`.
-fn count_values(s: &[u8], from: usize, before: usize, ty: &mut [u8], depth: u8, most: usize) -> Args
+fn count_values(
+    s: &[u8],
+    from: usize,
+    before: usize,
+    ty: &mut [u8],
+    depth: u8,
+    most: usize,
+) -> Option<usize>
     requires { (most ≤ length ty.old) × Left val_bytes (ValueArg depth most) s.now from before }
     ensures { Counts (Rests val_bytes (ValueArg depth most) s.now 0) result }
 {
@@ -122,26 +114,20 @@ fn count_values(s: &[u8], from: usize, before: usize, ty: &mut [u8], depth: u8, 
     let mut n = before;
     while i < s.len() {
         if n == Limit::ARGUMENTS {
-            return Args::Bad;
+            return None;
         }
-        match derive::derive(s, i, ty, 0, depth) {
-            Derived::Ends(e, q) => {
-                if q > most {
-                    return Args::Bad;
-                }
-                i = e;
-            }
-            Derived::Unfit => {
-                return Args::Bad;
-            }
+        let (e, q) = derive::derive(s, i, ty, 0, depth)?;
+        if q > most {
+            return None;
         }
+        i = e;
         n += 1;
     }
-    Args::Count(n)
+    Some(n)
 }
 
 // Counts the rest of the arguments, with room for their types.
-fn other_args(s: &[u8], from: usize, before: usize, depth: u8, most: usize) -> Args
+fn other_args(s: &[u8], from: usize, before: usize, depth: u8, most: usize) -> Option<usize>
     requires { (most ≤ 4096) × Left val_bytes (ValueArg depth most) s.now from before }
     ensures { Counts (Rests val_bytes (ValueArg depth most) s.now 0) result }
 {
@@ -149,61 +135,50 @@ fn other_args(s: &[u8], from: usize, before: usize, depth: u8, most: usize) -> A
     count_values(s, from, before, &mut ty, depth, most)
 }
 
-// Counts the types that s is.
-fn count_types(s: &[u8], depth: u8, most: usize) -> Args
+// Counts the types that s is. A type's end is taken by `let else`: `?` costs two more instructions for each type here.
+fn count_types(s: &[u8], depth: u8, most: usize) -> Option<usize>
     ensures { Counts (Rests ty_bytes (TypeArg depth most) s.now 0) result }
 {
     let mut i = 0;
     let mut n: usize = 0;
     while i < s.len() {
         if n >= Limit::ARGUMENTS {
-            return Args::Bad;
+            return None;
         }
-        match ty::type_end(s, i, depth) {
-            TypeEnd::At(e) => {
-                if e - i > most {
-                    return Args::Bad;
-                }
-                i = e;
-            }
-            TypeEnd::Bad => {
-                return Args::Bad;
-            }
+        let Some(e) = ty::type_end(s, i, depth) else {
+            return None;
+        };
+        if e - i > most {
+            return None;
         }
+        i = e;
         n += 1;
     }
-    Args::Count(n)
+    Some(n)
 }
 
 // Whether the target is `Qa`, whose arguments have tighter limits.
 fn is_tight(found: Target) -> bool
     ensures { result ≡ is_tight found }
 {
-    match found {
-        Target::Array => true,
-        Target::Type => false,
-        Target::Runtime => false,
-        Target::Vector(_) => false,
-        Target::Matrix(_, _) => false,
-        Target::Bad => false,
-    }
+    matches!(found, Target::Array)
 }
 
 // How many arguments of a build for that target s is.
-pub fn value_args(s: &[u8], found: Target) -> Args
-    ensures { (g : trees.Target) → found ≡ target_of (some g) → result ≡ args_of (read_vals g s.now) }
+pub fn value_args(s: &[u8], found: Target) -> Option<usize>
+    ensures { (g : trees.Target) → found ≡ seen g → result ≡ args_of (read_vals g s.now) }
 {
     let flat = flat_args(s);
     if flat.end == s.len() {
-        return Args::Count(flat.count);
+        return Some(flat.count);
     }
     let tight = is_tight(found);
     other_args(s, flat.end, flat.count, depth_for(tight), bytes_for(tight))
 }
 
 // The same of typing, whose arguments are types.
-pub fn type_args(s: &[u8], found: Target) -> Args
-    ensures { (g : trees.Target) → found ≡ target_of (some g) → result ≡ args_of (read_tys g s.now) }
+pub fn type_args(s: &[u8], found: Target) -> Option<usize>
+    ensures { (g : trees.Target) → found ≡ seen g → result ≡ args_of (read_tys g s.now) }
 {
     let tight = is_tight(found);
     count_types(s, depth_for(tight), bytes_for(tight))
@@ -264,32 +239,21 @@ pub fn next_type(args: &[u8], i: usize, ty: &mut [u8]) -> Step
     ensures { Types args.now i result.end result.ty ty.new }
 {
     match derive::derive(args, i, ty, 0, Limit::DEPTH) {
-        Derived::Ends(e, q) => Step { end: e, ty: q },
-        Derived::Unfit => Step { end: i, ty: 0 },
+        Some((e, q)) => Step { end: e, ty: q },
+        None => Step { end: i, ty: 0 },
     }
 }
 
 // ---- one value alone
 
-// The bytes are one value, whose type's record was written and ends there; or they are not.
-#[derive(Clone, Copy)]
-pub enum Single {
-    Of(usize),
-    Bad,
-}
-
 // Whether the bytes are one well-formed value, and what its type is.
-pub fn one_value(args: &[u8], ty: &mut [u8]) -> Single
+pub fn one_value(args: &[u8], ty: &mut [u8]) -> Option<usize>
     requires { length ty.old ≡ 4096 }
     ensures { Singles args.now result ty.new }
 {
-    match derive::derive(args, 0, ty, 0, Limit::DEPTH) {
-        Derived::Ends(e, q) => {
-            if e != args.len() {
-                return Single::Bad;
-            }
-            Single::Of(q)
-        }
-        Derived::Unfit => Single::Bad,
+    let (e, q) = derive::derive(args, 0, ty, 0, Limit::DEPTH)?;
+    if e != args.len() {
+        return None;
     }
+    Some(q)
 }

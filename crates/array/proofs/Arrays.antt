@@ -23,13 +23,14 @@ use Rattle.ty.proofs.Targets.{whole_bytes}
 use Rattle.record.specs.Bytes.{Put}
 use Rattle.record.proofs.Puts.{put_put}
 use Rattle.error.specs.Told.{Builds}
-use Rattle.error.specs.declared.Written.TheVariants.{Record, Refused}
 use Rattle.error.proofs.BufferAtExit.{builds_long, builds_record}
 use Rattle.args.proofs.ArgumentRows.{each_ok}
 use Rattle.convert_all.proofs.ConvertedLists.{all_shaped, all_typed, all_count}
 use Rattle.array.specs.Arrays.{Elements}
 use Rattle.array.proofs.Lengths.{room_no, room_yes}
 use Rattle.shape.proofs.Downs.{some_of, none_of}
+use Rattle.std.specs.declared.result.Result.TheVariants.{Ok, Err}
+use Rattle.error.specs.declared.Refusal.TheVariants.{NoRoom}
 
 -- ---- the target
 
@@ -79,7 +80,7 @@ module _ {args : List ℕ} {count d : ℕ} {ty : List ℕ} {at : ℕ} {t : Ty} {
   module _ (out : List ℕ) where
     -- the test of the length: the count, times the length of an element
     module _ {r : Bool} (w : r ≡ leb (4 + count * val_len t) (length out)) where
-      pub array_no : r ≡ false → Builds (ok array_val) out (Refused 22) out
+      pub array_no : r ≡ false → Builds (ok array_val) out (Err NoRoom) out
       array_no q = builds_long out array_val refl (rw long (room_no (4 + count * val_len t) (length out) w q))
 
       pub array_fits : r ≡ true → 4 + length (joined val_bytes ws) ≤ length out
@@ -88,7 +89,7 @@ module _ {args : List ℕ} {count d : ℕ} {ty : List ℕ} {at : ℕ} {t : Ty} {
     -- the mark, the count, the elements
     pub array_yes : {o₁ o₂ out' : List ℕ} {p q r : ℕ} → 4 + length (joined val_bytes ws) ≤ length out → Put out 0 (‘V’ ∷ ‘a’ ∷ []) p o₁
         → Put o₁ p (le 2 count) q o₂
-        → Put o₂ q (joined val_bytes ws) r out' → Builds (ok array_val) out (Record r) out'
+        → Put o₂ q (joined val_bytes ws) r out' → Builds (ok array_val) out (Ok r) out'
     array_yes h a b c = builds_record out array_val refl made.0 (rw long (omega (arith, array_long)))
         (rw record_is (put_put (put_put a b) c))
 

@@ -6,17 +6,17 @@ use native.Mathlib.Omega.{arith}
 use borrow.Author.Tests.{le-leb, lt-leb, leb-true, leb-false}
 use lib.Dec.{leb}
 use Rattle.ty.specs.Heads.{len_of}
-use Rattle.ty.specs.declared.Len.{Len}
-use Rattle.ty.specs.declared.Len.TheVariants.{Is, TooLong}
 use Rattle.ty.proofs.Lens.{is_len, long_len, times_fits, times_long, times_more}
+use Rattle.std.specs.declared.option.Option.{Option}
+use Rattle.std.specs.declared.option.Option.TheVariants.{None, Some}
 
-module _ {len : Len} (e n : ℕ) (h : len ≡ len_of e n) where
+module _ {len : Option (ℕ × ℕ)} (e n : ℕ) (h : len ≡ len_of e n) where
   -- the number that was measured is the length
-  pub is_long : {a m : ℕ} → len ≡ Is a m → m ≡ n
+  pub is_long : {a m : ℕ} → len ≡ Some (a, m) → m ≡ n
   is_long {a} {m} q = (is_len a m e n (sym q ∙ h)).1
 
   -- no room is past 64 bits
-  pub past_room : (f : ℕ → ℕ) (room : ℕ) → len ≡ TooLong → room < 2 ^ 64 → n ≤ f n → false ≡ leb (f n) room
+  pub past_room : (f : ℕ → ℕ) (room : ℕ) → len ≡ None → room < 2 ^ 64 → n ≤ f n → false ≡ leb (f n) room
   past_room f room q r g = sym (lt-leb (f n) room (omega (arith, long_len e n (sym q ∙ h))))
 
 -- what a test of the length said

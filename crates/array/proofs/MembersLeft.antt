@@ -22,8 +22,8 @@ use Rattle.record.proofs.Left.{Left, left_room, left_on, left_end, left_same}
 use Rattle.args.specs.Row.{SomeArg, Skips}
 use Rattle.args.proofs.ArgumentRows.{row_none}
 use Rattle.array.specs.Members.{Pairs, SomePair, MemberIs}
-use Rattle.array.specs.declared.Member.TheVariants.{Ends, Unfit}
 use Rattle.array.proofs.Pairs.{PairsLeft, pairs_first, pair_arg, pair_type, pair_to, pair_rest, pair_more}
+use Rattle.std.specs.declared.option.Option.TheVariants.{None, Some}
 
 -- ---- one member more
 
@@ -80,11 +80,11 @@ module _ {target : List ℕ} {at : ℕ} {args : List ℕ} {i : ℕ} {b : Bool} (
     pub fit_pair : SomePair target at args i
     fit_pair = pairs_first g h λ t m v l x q. record { type = t; types = m; value = v; values = l; pairs = x }
 
-    pub fit_no : MemberIs target at args i Unfit → false ≡ b
+    pub fit_no : MemberIs target at args i None → false ≡ b
     unfolding some?
     fit_no f = pairs_first g h λ t m v l x q. rw (f t m v l x) at (sym (members_cons t m v l) ∙ q)
 
-    module _ {e a : ℕ} (f : MemberIs target at args i (Ends e a)) where
+    module _ {e a : ℕ} (f : MemberIs target at args i (Some (e, a))) where
       pub fit_less : i < e
       fit_less = pairs_first g h λ t m v l x q. (f t m v l x).more
 

@@ -28,12 +28,13 @@ use Rattle.record.specs.Bytes.{Put}
 use Rattle.record.proofs.Puts.{put_put}
 use Rattle.args.specs.Row.{Row}
 use Rattle.error.specs.Told.{Builds}
-use Rattle.error.specs.declared.Written.TheVariants.{Record, Refused}
 use Rattle.error.proofs.BufferAtExit.{builds_long, builds_record}
 use Rattle.args.proofs.ArgumentRows.{each_ok}
 use Rattle.array.specs.Members.{Pairs, Made}
 use Rattle.array.proofs.Lengths.{room_no, room_yes}
 use Rattle.shape.proofs.Downs.{some_of, none_of}
+use Rattle.std.specs.declared.result.Result.TheVariants.{Ok, Err}
+use Rattle.error.specs.declared.Refusal.TheVariants.{NoRoom}
 
 -- ---- the target
 
@@ -128,7 +129,7 @@ module _ {target args : List ℕ} {i : ℕ} {m : Tys} {l ws : List Val} (x : Mad
   module _ (out : List ℕ) where
     -- the test of the length that the type says
     module _ {r : Bool} (w : r ≡ leb (val_len (Tu i m)) (length out)) where
-      pub made_no : r ≡ false → Builds (ok made_val) out (Refused 22) out
+      pub made_no : r ≡ false → Builds (ok made_val) out (Err NoRoom) out
       made_no q = builds_long out made_val refl (rw type (room_no (val_len (Tu i m)) (length out) w q))
 
       pub made_room : r ≡ true → 6 + length (joined val_bytes ws) ≤ length out
@@ -137,7 +138,7 @@ module _ {target args : List ℕ} {i : ℕ} {m : Tys} {l ws : List Val} (x : Mad
     -- the mark, the identity and the member count, and the members
     pub made_yes : {o₁ o₂ out' : List ℕ} {p q r : ℕ} → 6 + length (joined val_bytes ws) ≤ length out → Put out 0 (‘V’ ∷ ‘u’ ∷ []) p o₁
         → Put o₁ p (take 4 (drop 2 target)) q o₂
-        → Put o₂ q (joined val_bytes ws) r out' → Builds (ok made_val) out (Record r) out'
+        → Put o₂ q (joined val_bytes ws) r out' → Builds (ok made_val) out (Ok r) out'
     made_yes h a b c = builds_record out made_val refl shaped (rw type (omega (arith, made_long))) (rw record_is (put_put (put_put a b) c))
 
 -- ---- the answer

@@ -8,7 +8,7 @@ use Rattle.meaning.specs.Build.{array_of, runtime_of, qa_of}
 use Rattle.ty.specs.Stands.{Stands, Whole}
 use Rattle.args.specs.Row.{Given}
 use Rattle.error.specs.Told.{Builds}
-use Rattle.error.specs.declared.Written.{Written}
+use Rattle.error.specs.Told.{Written}
 
 -- ---- elements
 

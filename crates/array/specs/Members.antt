@@ -11,9 +11,9 @@ use Rattle.ty.specs.Stands.{StandAll, Whole}
 use Rattle.record.specs.Bytes.{Put}
 use Rattle.args.specs.Row.{Row, Given}
 use Rattle.error.specs.Told.{Builds}
-use Rattle.error.specs.declared.Written.{Written}
-use Rattle.array.specs.declared.Member.{Member}
-use Rattle.array.specs.declared.Member.TheVariants.{Ends, Unfit}
+use Rattle.std.specs.declared.option.Option.{Option}
+use Rattle.std.specs.declared.option.Option.TheVariants.{None, Some}
+use Rattle.error.specs.Told.{Written}
 
 -- the member types m stand in the target from `at` up to its end, and as many values l in the arguments from i on
 pub record Pairs (target : List ℕ) (at : ℕ) (args : List ℕ) (i : ℕ) (m : Tys) (l : List Val) : Type 0 where
@@ -41,11 +41,11 @@ pub record MemberEnds (target args : List ℕ) (i : ℕ) (t : Ty) (m : Tys) (v :
   pub fits : some? (conv_val t v) ≡ true
   pub rest : Pairs target q args e m l
 
-abbrev pub MemberTold : List ℕ → List ℕ → ℕ → Ty → Tys → Val → List Val → Member → Type 0
-MemberTold target args i t m v l (Ends e q) = MemberEnds target args i t m v l e q
-MemberTold target args i t m v l Unfit = conv_val t v ≡ none
+abbrev pub MemberTold : List ℕ → List ℕ → ℕ → Ty → Tys → Val → List Val → Option (ℕ × ℕ) → Type 0
+MemberTold target args i t m v l (Some (e, q)) = MemberEnds target args i t m v l e q
+MemberTold target args i t m v l None = conv_val t v ≡ none
 
-abbrev pub MemberIs : List ℕ → ℕ → List ℕ → ℕ → Member → Type 0
+abbrev pub MemberIs : List ℕ → ℕ → List ℕ → ℕ → Option (ℕ × ℕ) → Type 0
 MemberIs target at args i r = (t : Ty) (m : Tys) (v : Val) (l : List Val) → Pairs target at args i (t ▸ m) (v ∷ l)
     → MemberTold target args i t m v l r
 

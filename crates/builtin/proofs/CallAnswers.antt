@@ -23,11 +23,11 @@ use Rattle.ty.proofs.Numbers.{float_number_lem}
 use Rattle.args.specs.Counts.{ValueArg}
 use Rattle.ty.specs.Stands.{Whole}
 use Rattle.error.specs.Told.{Told, Builds}
-use Rattle.error.specs.declared.Written.{Written}
 use Rattle.error.proofs.Told.{told_as}
 use Rattle.args.specs.Row.{Given}
 use Rattle.args.proofs.Rest.{BothRead, NoneRead}
 use Rattle.builtin.specs.Calls.{build_target, build_at}
+use Rattle.error.specs.Told.{Written}
 
 -- ---- the stage, and the target
 
@@ -43,10 +43,6 @@ module _ (stage : ℕ) (target args : List ℕ) (room : ℕ) where
 
 -- the constructor of the target that is read
 module _ (s : Stage) (target : List ℕ) (l : List Val) where
-  pub target_none : read_target target ≡ none → build_target s target l ≡ no 1
-  unfolding build_target
-  target_none e = rw e
-
   pub target_builds : {g : Target} → read_target target ≡ some g → build_target s target l ≡ build s g l
   unfolding build_target
   target_builds e = rw e

@@ -12,9 +12,9 @@ use Rattle.meaning.specs.Answers.{Result, no}
 use Rattle.meaning.specs.Build.{build, build_one, build_more, array_of, struct_of, runtime_of, qa_of}
 use Rattle.args.specs.Row.{Row, Given, SomeGiven}
 use Rattle.error.specs.Told.{Builds}
-use Rattle.error.specs.declared.Written.{Written}
 use Rattle.scalar.specs.Made.{OneArg}
 use Rattle.matrix.specs.MatrixRules as matrices
+use Rattle.error.specs.Told.{Written}
 
 module _ (P : List Val → Type 0) {args : List ℕ} {n : ℕ} (l : List Val) (g : Given args n l) where
   pub on_none : n ≡ 0 → P [] → P l

@@ -6,8 +6,8 @@ use lib.ListN.{length}
 use Rattle.meaning.specs.Entries.{build_answer}
 use Rattle.laws.proofs.Stages.{at_const, one_answer}
 use Rattle.error.specs.Told.{Told}
-use Rattle.error.specs.declared.Written.{Written}
 use Rattle.error.proofs.Told.{told_as, told_once}
+use Rattle.error.specs.Told.{Written}
 
 -- "A user who folds the same literals at Const and Override gets one result": two calls with the same target, arguments
 -- and buffer, each as the contract of `call_ctor` tells it, return the same, and leave the same in every byte of the

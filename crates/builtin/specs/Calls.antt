@@ -12,7 +12,7 @@ use Rattle.literal.specs.declared.Rules.{Rules}
 use Rattle.ty.specs.Stands.{Stands, Whole}
 use Rattle.args.specs.Row.{Given}
 use Rattle.error.specs.Told.{Told, Builds}
-use Rattle.error.specs.declared.Written.{Written}
+use Rattle.error.specs.Told.{Written}
 
 -- ---- the target, once it is read
 

@@ -5,7 +5,6 @@ ghost use Rattle.std.specs.Prelude.{◌≤◌, T, length};
 ghost use Rattle.meaning.specs.Trees.{Ts, Tv, Tm, Qa, Qv, Qm};
 ghost use Rattle.meaning.specs.Records.{side};
 ghost use Rattle.meaning.specs.Entries.{build_answer};
-ghost use Rattle.literal.specs.LiteralAnswers.{SomeStage};
 ghost use Rattle.ty.specs.TypeFronts.{float_number};
 ghost use Rattle.ty.specs.Targets.{RuntimeIs, Meant};
 ghost use Rattle.args.specs.Row.{SomeGiven};
@@ -14,17 +13,22 @@ ghost use Rattle.error.specs.Told.{Told};
 ghost use Rattle.scalar.specs.Made.{SomeKind};
 ghost use Rattle.builtin.specs.Calls.{TypeBuilt, LeafBuilt, RuntimeBuilt, ShapeBuilt, TargetBuilt, TargetAnswers};
 
-use args::Args;
-use error::{Refusal, Written};
+use error::Refusal;
 use kind::Scalar;
-use literal::{Rules, Staged};
+use literal::Rules;
 use ty::{Head, Limit, Target};
 
 // ---- the arguments are read: at least one, or none
 
 // A scalar type: 4 for an abstract one, 5 for two arguments or more.
-fn scalar_ctor(rules: Rules, k: u8, args: &[u8], count: usize, out: &mut [u8]) -> Written
-    requires { SomeStage rules × SomeKind k × (1 ≤ count) × SomeGiven args.now count }
+fn scalar_ctor(
+    rules: Rules,
+    k: u8,
+    args: &[u8],
+    count: usize,
+    out: &mut [u8],
+) -> Result<usize, Refusal>
+    requires { SomeKind k × (1 ≤ count) × SomeGiven args.now count }
     ensures { LeafBuilt Ts rules k args.now count out.old result out.new }
 {
     if count == 1 {
@@ -32,14 +36,21 @@ fn scalar_ctor(rules: Rules, k: u8, args: &[u8], count: usize, out: &mut [u8]) -
     }
     let scalar = Scalar { kind: k };
     if scalar.is_abstract() {
-        return Written::Refused(Refusal::NOT_CONSTRUCTIBLE);
+        return Err(Refusal::NotConstructible);
     }
-    Written::Refused(Refusal::SEVERAL_FOR_SCALAR)
+    Err(Refusal::SeveralForScalar)
 }
 
 // A vector type.
-fn vec_ctor(rules: Rules, n: u8, k: u8, args: &[u8], count: usize, out: &mut [u8]) -> Written
-    requires { SomeStage rules × T (side n) × SomeKind k × (1 ≤ count) × SomeGiven args.now count }
+fn vec_ctor(
+    rules: Rules,
+    n: u8,
+    k: u8,
+    args: &[u8],
+    count: usize,
+    out: &mut [u8],
+) -> Result<usize, Refusal>
+    requires { T (side n) × SomeKind k × (1 ≤ count) × SomeGiven args.now count }
     ensures { LeafBuilt (Tv n) rules k args.now count out.old result out.new }
 {
     if count == 1 {
@@ -49,8 +60,16 @@ fn vec_ctor(rules: Rules, n: u8, k: u8, args: &[u8], count: usize, out: &mut [u8
 }
 
 // A matrix type.
-fn mat_ctor(rules: Rules, c: u8, r: u8, k: u8, args: &[u8], count: usize, out: &mut [u8]) -> Written
-    requires { SomeStage rules × T (side c) × T (side r) × T (float_number k) × (1 ≤ count) × SomeGiven args.now count }
+fn mat_ctor(
+    rules: Rules,
+    c: u8,
+    r: u8,
+    k: u8,
+    args: &[u8],
+    count: usize,
+    out: &mut [u8],
+) -> Result<usize, Refusal>
+    requires { T (side c) × T (side r) × T (float_number k) × (1 ≤ count) × SomeGiven args.now count }
     ensures { LeafBuilt (Tm c r) rules k args.now count out.old result out.new }
 {
     if count == 1 {
@@ -60,8 +79,14 @@ fn mat_ctor(rules: Rules, c: u8, r: u8, k: u8, args: &[u8], count: usize, out: &
 }
 
 // A type whose record the target is: "no arguments with a type record: the zero value".
-fn type_given(rules: Rules, target: &[u8], args: &[u8], count: usize, out: &mut [u8]) -> Written
-    requires { SomeStage rules × OneType target.now × SomeGiven args.now count }
+fn type_given(
+    rules: Rules,
+    target: &[u8],
+    args: &[u8],
+    count: usize,
+    out: &mut [u8],
+) -> Result<usize, Refusal>
+    requires { OneType target.now × SomeGiven args.now count }
     ensures { TypeBuilt rules target.now args.now count out.old result out.new }
 {
     if count == 0 {
@@ -77,29 +102,29 @@ fn type_given(rules: Rules, target: &[u8], args: &[u8], count: usize, out: &mut 
 }
 
 // A runtime-sized array: "4 .. building `Tr` with none".
-fn runtime_given(target: &[u8], args: &[u8], count: usize, out: &mut [u8]) -> Written
+fn runtime_given(target: &[u8], args: &[u8], count: usize, out: &mut [u8]) -> Result<usize, Refusal>
     requires { RuntimeIs target.now × SomeGiven args.now count }
     ensures { RuntimeBuilt target.now args.now count out.old result out.new }
 {
     if count == 0 {
-        return Written::Refused(Refusal::NOT_CONSTRUCTIBLE);
+        return Err(Refusal::NotConstructible);
     }
     array::runtime_of(target, args, count, out)
 }
 
 // `Qa`: 11 without arguments.
-fn array_given(args: &[u8], count: usize, out: &mut [u8]) -> Written
+fn array_given(args: &[u8], count: usize, out: &mut [u8]) -> Result<usize, Refusal>
     requires { SomeGiven args.now count }
     ensures { ShapeBuilt Qa args.now count out.old result out.new }
 {
     if count == 0 {
-        return Written::Refused(Refusal::ARGUMENTS_NEEDED);
+        return Err(Refusal::ArgumentsNeeded);
     }
     array::qa_of(args, count, out)
 }
 
 // `Qv`: "without arguments: AbstractInt zeros".
-fn vector_given(n: u8, args: &[u8], count: usize, out: &mut [u8]) -> Written
+fn vector_given(n: u8, args: &[u8], count: usize, out: &mut [u8]) -> Result<usize, Refusal>
     requires { T (side n) × SomeGiven args.now count }
     ensures { ShapeBuilt (Qv n) args.now count out.old result out.new }
 {
@@ -113,12 +138,12 @@ fn vector_given(n: u8, args: &[u8], count: usize, out: &mut [u8]) -> Written
 }
 
 // `Qm`: 11 without arguments.
-fn matrix_given(c: u8, r: u8, args: &[u8], count: usize, out: &mut [u8]) -> Written
+fn matrix_given(c: u8, r: u8, args: &[u8], count: usize, out: &mut [u8]) -> Result<usize, Refusal>
     requires { T (side c) × T (side r) × SomeGiven args.now count }
     ensures { ShapeBuilt (Qm c r) args.now count out.old result out.new }
 {
     if count == 0 {
-        return Written::Refused(Refusal::ARGUMENTS_NEEDED);
+        return Err(Refusal::ArgumentsNeeded);
     }
     if count == 1 {
         return matrix::qm_one(c, r, args, out);
@@ -136,8 +161,8 @@ fn target_given(
     args: &[u8],
     count: usize,
     out: &mut [u8],
-) -> Written
-    requires { SomeStage rules × Meant target.now found × SomeGiven args.now count }
+) -> Result<usize, Refusal>
+    requires { Meant target.now found × SomeGiven args.now count }
     ensures { TargetBuilt rules target.now args.now count out.old result out.new }
 {
     match found {
@@ -146,39 +171,34 @@ fn target_given(
         Target::Array => array_given(args, count, out),
         Target::Vector(n) => vector_given(n, args, count, out),
         Target::Matrix(c, r) => matrix_given(c, r, args, count, out),
-        Target::Bad => Written::Refused(Refusal::BAD_TARGET),
     }
 }
 
 // ---- the stage is read
 
 // "Order: 3, 1, 2, then the order above, then 22".
-fn target_call(rules: Rules, target: &[u8], args: &[u8], out: &mut [u8]) -> Written
-    requires { SomeStage rules }
+fn target_call(rules: Rules, target: &[u8], args: &[u8], out: &mut [u8]) -> Result<usize, Refusal>
     ensures { TargetAnswers rules target.now args.now out.old result out.new }
 {
-    let found = ty::read_target(target);
-    if ty::is_bad(found) {
-        return Written::Refused(Refusal::BAD_TARGET);
-    }
-    match args::value_args(args, found) {
-        Args::Count(n) => target_given(rules, found, target, args, n, out),
-        Args::Bad => Written::Refused(Refusal::BAD_ARGUMENT),
-    }
+    let Some(found) = ty::read_target(target) else {
+        return Err(Refusal::BadTarget);
+    };
+    let Some(count) = args::value_args(args, found) else {
+        return Err(Refusal::BadArgument);
+    };
+    target_given(rules, found, target, args, count, out)
 }
 
 // ---- the entry
 
 // The source's `call_ctor`: what the target's constructor makes of the arguments, at the front of the lent buffer, or a
 // refusal, which leaves the buffer as it was. Nothing is assumed of the bytes.
-pub fn call_ctor(stage: u8, target: &[u8], args: &[u8], out: &mut [u8]) -> Written
+pub fn call_ctor(stage: u8, target: &[u8], args: &[u8], out: &mut [u8]) -> Result<usize, Refusal>
     ensures { Told (build_answer stage target.now args.now (length out.old)) out.old result
         out.new }
 {
     // taken anew: its two words are read one by one, not copied at once (docs/DECISIONS.md, 66)
     let t = &target[..];
-    match literal::rules_at(stage) {
-        Staged::At(rules) => target_call(rules, t, args, out),
-        Staged::Never => Written::Refused(Refusal::NO_STAGE),
-    }
+    let rules = literal::rules_at(stage)?;
+    target_call(rules, t, args, out)
 }

@@ -12,16 +12,17 @@ use Rattle.meaning.specs.Answers as definition
 use Rattle.meaning.specs.Entries.{build_answer}
 use Rattle.meaning.specs.Batch as batch
 use Rattle.meaning.specs.Batch.{inside, parts_inside, part, alone, record_of}
-use Rattle.error.specs.Told.{Told, paper}
+use Rattle.error.specs.Refusals.{paper}
+use Rattle.error.specs.Told.{Told}
 use Rattle.error.specs.Numbers.{in_numbers, value_of, Records}
 use Rattle.error.specs.declared.Answer.{Answer}
-use Rattle.error.specs.declared.Written.{Written}
 use Rattle.error.proofs.Numbers.{told}
 use Rattle.laws.proofs.Back.{and_l, and_r}
 use Rattle.call_batch.specs.Jobs.{job_of}
 use Rattle.call_batch.specs.Steps.{alone_at, Does, OneDone, Stepped}
 use Rattle.call_batch.specs.declared.Job.{Job}
 use Rattle.laws.proofs.Batch.{record_fits}
+use Rattle.error.specs.Told.{Written}
 
 -- ---- the parts as they are lent: of the slice by start and end, of the buffer all that is left
 

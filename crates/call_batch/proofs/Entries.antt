@@ -18,7 +18,7 @@ use Rattle.error.specs.Numbers.{value_of}
 use Rattle.error.specs.declared.Answer.{Answer}
 use Rattle.call_batch.specs.Jobs.{job_of, answered, filled, listed, Batched}
 use Rattle.call_batch.specs.declared.Job.{Job}
-use Rattle.call_batch.proofs.Turns.{refusal, not_refused}
+use Rattle.call_batch.proofs.Turns.{refused, not_refused}
 
 -- the bytes that an entry names in a buffer are the whole record of a well-formed value, and read as an argument they are that value
 pub record RecordAt (out : List ℕ) (e : Job) : Type 0 where
@@ -73,7 +73,7 @@ refusal_through (miscount w g) = refl
 
 module _ {s : List ℕ} {js : List Job} {out : List ℕ} {r : Answer} {js' : List Job} {out' : List ℕ} (b : Batched s js out r js' out')
     (accepted : r.refusal ≡ 0) where
-  no_refusal : refusal s js out ≡ 0
+  no_refusal : refused s js out ≡ 0
   unfolding batch_answer
   no_refusal = sym (refusal_through (batch_turns s (map job_of js) (length out)))
       ∙ sym (ap (λ (x : Answer). x.refusal) b.answers.numbers) ∙ accepted

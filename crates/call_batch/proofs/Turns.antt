@@ -1,6 +1,6 @@
 -- After some of its turns a batch has done what the batch of those jobs alone does: the list's front has their answers,
 -- the buffer has their records, and the place is where these end.
-use mathlib.Core.Path.{◌≡◌, refl, sym, ap, ◌∙◌}
+use mathlib.Core.Path.{◌≡◌, refl, sym, ap, ◌∙◌, subst}
 use mathlib.Core.List.{List, [], ◌∷◌, ◌++◌, map, append_assoc, append-nil, map-append}
 use mathlib.Core.Bool.{Bool, true, false, ◌&&◌, cond}
 use Prim.Native.Nat.{ℕ, zero, suc, ◌-◌, ◌≤◌, ◌<◌}
@@ -16,58 +16,45 @@ use Rattle.meaning.specs.Records.{every}
 use Rattle.meaning.specs.Entries.{laid}
 use Rattle.meaning.specs.Batch as batch
 use Rattle.meaning.specs.Batch.{Turn, parts_inside, alone, record_of, turns, records, batch_turns, batch_answer}
-use Rattle.error.specs.Numbers.{numbers, Records, value_of, wanted_of, given_of}
+use Rattle.error.specs.Numbers.{numbers, refused_numbers, Records, value_of, wanted_of, given_of}
+use Rattle.error.specs.declared.Answer.{Answer}
+use Rattle.error.specs.declared.Refusal.{Refusal}
+use Rattle.error.specs.Refusals.{refusal}
+use Rattle.error.proofs.Refusals.{Told, plain, counted, told, no_after, no_more}
 use Rattle.laws.proofs.Back.{and_l, and_r}
 use Rattle.laws.proofs.Handed.{front_keeps}
 use Rattle.call_batch.specs.Jobs.{job_of, answered, filled, listed, Batched}
-use Rattle.call_batch.specs.Steps.{alone_at, laid_at, Ready, step_of, counting, inside_of, judging, doing, closing}
+use Rattle.call_batch.specs.Steps.{alone_at, laid_at, Ready, step_of, judgement}
 use Rattle.call_batch.specs.declared.Job.{Job}
 use Rattle.laws.proofs.Batch.{records_fit, turns_append, records_append, turns_length, laid_append}
 
--- what one job makes of the refusal so far: one that is a refusal stays, whatever the job; else both parts decide, first the target's
-pub judging_stays : (f room : ℕ) (j : Job) → (f ≡ 0 → ⊥) → f ≡ judging f room j
-judging_stays f room j h = rw (ne_eqb f 0 h)
+-- ---- the refusals of the whole call
 
-pub judging_inside : (f room : ℕ) (j : Job) (a b : Bool) → f ≡ 0 → a ≡ inside_of room j.target → a ≡ true → b ≡ inside_of room j.args
-    → b ≡ true → 0 ≡ judging f room j
-unfolding parts_inside
-judging_inside f room j a b e p g q h = rw (eq-eqb f 0 e, ← p, g, ← q, h)
-
-pub judging_target : (f room : ℕ) (j : Job) (a : Bool) → f ≡ 0 → a ≡ inside_of room j.target → a ≡ false → 24 ≡ judging f room j
-unfolding parts_inside
-judging_target f room j a e p g = rw (eq-eqb f 0 e, ← p, g)
-
-pub judging_args : (f room : ℕ) (j : Job) (a b : Bool) → f ≡ 0 → a ≡ inside_of room j.target → a ≡ true → b ≡ inside_of room j.args
-    → b ≡ false → 24 ≡ judging f room j
-unfolding parts_inside
-judging_args f room j a b e p g q h = rw (eq-eqb f 0 e, ← p, g, ← q, h)
-
--- the refusal after the jobs of a list were looked at one after another, where it was f before
-unfoldable pub judged_all_lem : ℕ → List Job → ℕ → ℕ
-judged_all_lem room [] f = f
-judged_all_lem room (j ∷ js) f = judged_all_lem room js (judging f room j)
-
-judged_append : (room : ℕ) (js ks : List Job) (f : ℕ) → judged_all_lem room (js ++ ks) f ≡ judged_all_lem room ks (judged_all_lem room js f)
-unfolding judged_all_lem
-judged_append room [] ks f = refl
-judged_append room (j ∷ js) ks f = judged_append room js ks (judging f room j)
-
--- a refusal stays
-judged_stays : (room : ℕ) (js : List Job) → judged_all_lem room js 24 ≡ 24
-unfolding judged_all_lem
-judged_stays room [] = refl
-judged_stays room (j ∷ js) = judged_stays room js
-
--- from 0 on it is 24 where one of the jobs has a part outside
-judged_is : (room : ℕ) (js : List Job) → judged_all_lem room js 0 ≡ cond (every (parts_inside room) (map job_of js)) 0 24
-unfolding judged_all_lem every
-judged_is room [] = refl
-judged_is room (j ∷ js) = go (parts_inside room (job_of j)) (judged_is room js)
+-- the jobs looked at so far, and one more
+pub every_one : (f : batch.Job → Bool) (js : List Job) (i : ℕ) (d : Job) → i < length js → every f (map job_of (take i js)) ≡ true
+    → f (job_of (get_or js i d)) ≡ true → every f (map job_of (take (suc i) js)) ≡ true
+unfolding every
+every_one f [] i d h p q = absurd (omega arith)
+every_one f (j ∷ js) zero d h p q = rw q refl
+every_one f (j ∷ js) (suc i) d h p q = go (f (job_of j)) p (every_one f js i d (omega arith))
   where
-    go : (b : Bool) → judged_all_lem room js 0 ≡ cond (every (parts_inside room) (map job_of js)) 0 24
-        → judged_all_lem room js (cond b 0 24) ≡ cond (b && every (parts_inside room) (map job_of js)) 0 24
-    go true h = h
-    go false h = judged_stays room js
+    go : (b : Bool) → (b && every f (map job_of (take i js))) ≡ true
+        → (every f (map job_of (take i js)) ≡ true → f (job_of (get_or js i d)) ≡ true → every f (map job_of (take (suc i) js)) ≡ true)
+        → (b && every f (map job_of (take (suc i) js))) ≡ true
+    go true x k = k x q
+    go false x k = x
+
+-- one job that is not right is enough
+pub not_every : (f : batch.Job → Bool) (js : List Job) (i : ℕ) (d : Job) → i < length js → f (job_of (get_or js i d)) ≡ false
+    → every f (map job_of js) ≡ false
+unfolding every
+not_every f [] i d h q = absurd (omega arith)
+not_every f (j ∷ js) zero d h q = rw q refl
+not_every f (j ∷ js) (suc i) d h q = rw (not_every f js i d (omega arith) q) (and_false (f (job_of j)))
+  where
+    and_false : (b : Bool) → (b && false) ≡ false
+    and_false true = refl
+    and_false false = refl
 
 -- what holds of all holds of each
 every_at : (f : batch.Job → Bool) (js : List Job) (k : ℕ) (d : Job) → k < length js → T (every f (map job_of js))
@@ -107,18 +94,24 @@ refusal_is true true ts = refl
 refusal_is true false ts = refl
 refusal_is false c ts = refl
 
-passed : (b c : Bool) → ◌≡◌ {A = ℕ} (cond b (cond c 0 24) 23) 0 → T b × T c
+numbered : (b c : Bool) → ◌≡◌ {A = ℕ} (cond b (cond c 0 24) 23) 0 → T b × T c
+numbered true true e = (tt, tt)
+numbered true false e = absurd (omega arith)
+numbered false c e = absurd (omega arith)
+
+-- a call that is not refused has passed both tests
+passed : (b c : Bool) → (need b 23 >> need c 24) ≡ ok tt → T b × T c
 passed true true e = (tt, tt)
-passed true false e = absurd (omega arith)
-passed false c e = absurd (omega arith)
+passed true false e = absurd (let z : ◌≡◌ {A = ℕ} 0 1 = cc in omega arith)
+passed false c e = absurd (let z : ◌≡◌ {A = ℕ} 0 1 = cc in omega arith)
+
+both_tests : (b c : Bool) (ts : List Turn) → (need b 23 >> (need c 24 >> ok ts)) ≡ ((need b 23 >> need c 24) >> ok ts)
+both_tests true c ts = refl
+both_tests false c ts = refl
 
 module _ (s : List ℕ) (js₀ : List Job) (os₀ : List ℕ) where
   abbrev n : ℕ
   n = length js₀
-
-  -- the refusal of the whole call, or 0
-  abbrev pub refusal : ℕ
-  refusal = refusal_of (batch_turns s (map job_of js₀) (length os₀))
 
   -- all jobs' parts are inside the slice
   abbrev pub insides : Bool
@@ -128,40 +121,22 @@ module _ (s : List ℕ) (js₀ : List Job) (os₀ : List ℕ) where
   abbrev all : List Turn
   all = turns s (map job_of js₀) 0 (length os₀)
 
-  batch_is : batch_turns s (map job_of js₀) (length os₀) ≡ (need (leb n 256) 23 >> (need insides 24 >> ok all))
+  batch_is : batch_turns s (map job_of js₀) (length os₀) ≡ (judgement (length s) js₀ >> ok all)
   unfolding batch_turns
-  batch_is = rw length-map refl
+  batch_is = rw length-map (both_tests (leb n 256) insides all)
 
-  refusal_by : refusal ≡ cond (leb n 256) (cond insides 0 24) 23
-  refusal_by = ap refusal_of batch_is ∙ refusal_is (leb n 256) insides all
+  -- the refusal of the whole call, or 0
+  abbrev pub refused : ℕ
+  refused = refusal_of (batch_turns s (map job_of js₀) (length os₀))
 
-  -- a call that is not refused has passed both tests
-  pub not_refused : refusal ≡ 0 → T (leb n 256) × T insides
-  not_refused e = passed (leb n 256) insides (sym refusal_by ∙ e)
+  pub not_refused : refused ≡ 0 → T (leb n 256) × T insides
+  unfolding batch_turns
+  not_refused e = numbered (leb n 256) insides (sym (rw length-map (refusal_is (leb n 256) insides all)) ∙ e)
 
-  -- ---- the first loop
+  pub tests : judgement (length s) js₀ ≡ ok tt → T (leb n 256) × T insides
+  tests e = passed (leb n 256) insides e
 
-  -- f is the refusal once the first i jobs were looked at
-  abbrev pub Judged : ℕ → ℕ → Type 0
-  Judged i f = f ≡ judged_all_lem (length s) (take i js₀) (counting n)
-
-  pub judged_none : Judged 0 (counting n)
-  unfolding judged_all_lem
-  judged_none = refl
-
-  pub judged_one : (i f : ℕ) (d : Job) → i < n → Judged i f → Judged (suc i) (judging f (length s) (get_or js₀ i d))
-  unfolding judged_all_lem
-  judged_one i f d h e = rw (take-suc js₀ i d, judged_append, e) refl
-
-  pub judged_all : (f : ℕ) → Judged (doing (counting n) n) f → f ≡ refusal
-  unfolding judged_all_lem
-  judged_all f e = e ∙ go (leb n 256) ∙ sym refusal_by
-    where
-      go : (b : Bool) → judged_all_lem (length s) (take (doing (cond b 0 23) n) js₀) (cond b 0 23) ≡ cond b (cond insides 0 24) 23
-      go true = rw take-length (judged_is (length s) js₀)
-      go false = refl
-
-  -- ---- the second loop
+  -- ---- the loop
 
   -- the turns of the first k jobs
   abbrev firsts : ℕ → List Turn
@@ -238,29 +213,35 @@ module _ (s : List ℕ) (js₀ : List Job) (os₀ : List ℕ) where
     })
 
     -- a call that is not refused has seen to what is asked of each job
-    pub ready : refusal ≡ 0 → Ready s j os at
-    ready e = (rw same_job (every_at (parts_inside (length s)) js₀ k d within (not_refused e).1), rw (same_length, h.place) fits)
+    pub ready : judgement (length s) js₀ ≡ ok tt → Ready s j os at
+    ready e = (rw same_job (every_at (parts_inside (length s)) js₀ k d within (tests e).1), rw (same_length, h.place) fits)
 
-  -- what the call owes where its turns are x and its refusal is f
-  abbrev Closed : Result (List Turn) → ℕ → ℕ → List Job → List ℕ → Type 0
-  Closed x f at js os = Records (x >>= λ t. ok (records t)) os₀ (closing f at) os × (js ≡ listed x js₀)
+  -- ---- the call
 
-  -- b and c are the two tests of the whole call
-  closed : (b c : Bool) (at : ℕ) (js : List Job) (os : List ℕ)
-      → Done (doing (cond b (cond c 0 24) 23) n) at js os
-      → Closed (need b 23 >> (need c 24 >> ok all)) (cond b (cond c 0 24) 23) at js os
-  unfolding refusal_of value_of wanted_of given_of turns records filled listed laid
-  closed true true at js os h = (
-    record { numbers = rw take-length at (ap (λ (m : ℕ). numbers 0 m 0 0) h.place); leaves = rw take-length at h.out },
+  -- what the call owes where its turns are x
+  Owes : Result (List Turn) → Answer → List Job → List ℕ → Type 0
+  Owes x r js os = Records (x >>= λ t. ok (records t)) os₀ r os × (js ≡ listed x js₀)
+
+  owed : {x : Result (List Turn)} {r : Answer} {js : List Job} {os : List ℕ} → batch_turns s (map job_of js₀) (length os₀) ≡ x
+      → Owes x r js os → Batched s js₀ os₀ r js os
+  unfolding Owes batch_answer
+  owed {r = a} {js} {os} e h = let o = subst (λ (y : Result (List Turn)). Owes y a js os) (sym e) h in record { answers = o.0; lists = o.1 }
+
+  pub done_all : (at : ℕ) (js : List Job) (os : List ℕ) → judgement (length s) js₀ ≡ ok tt → Done n at js os
+      → Batched s js₀ os₀ (numbers 0 at 0 0) js os
+  unfolding Owes refusal_of value_of wanted_of given_of listed
+  done_all at js os e h = owed (batch_is ∙ ap (λ (y : Result (Unit {0})). y >> ok all) e) (
+    record { numbers = ap (λ (m : ℕ). numbers 0 m 0 0) (rw take-length at h.place); leaves = rw take-length at h.out },
     rw (take-length, drop-length, append-nil) at h.jobs,
   )
-  closed true false at js os h = (record { numbers = refl; leaves = h.out }, h.jobs)
-  closed false c at js os h = (record { numbers = refl; leaves = h.out }, h.jobs)
 
-  pub done_all : (f at : ℕ) (js : List Job) (os : List ℕ) → f ≡ refusal → Done (doing f n) at js os → Batched s js₀ os₀ (closing f at) js os
-  unfolding batch_answer
-  done_all f at js os e h =
-      let q : f ≡ cond (leb n 256) (cond insides 0 24) 23 = e ∙ refusal_by in
-      let x : Closed (batch_turns s (map job_of js₀) (length os₀)) f at js os = rw (batch_is, q)
-      (closed (leb n 256) insides at js os (rw q at h)) in
-      record { answers = x.0; lists = x.1 }
+  refused_owed : (x : Refusal) → Owes (refusal x) (refused_numbers x) js₀ os₀
+  unfolding Owes refusal_of value_of wanted_of given_of laid listed
+  refused_owed x = go x (told x)
+    where
+      go : (y : Refusal) → Told y → Owes (refusal y) (refused_numbers y) js₀ os₀
+      go y (plain e) = rw (e (List Turn), e ℕ) (record { numbers = refl; leaves = refl }, refl)
+      go _ (counted w g) = (record { numbers = refl; leaves = refl }, refl)
+
+  pub refused_all : (x : Refusal) → judgement (length s) js₀ ≡ refusal x → Batched s js₀ os₀ (refused_numbers x) js₀ os₀
+  refused_all x e = owed (batch_is ∙ (ap (λ (y : Result (Unit {0})). y >> ok all) e ∙ no_after (Unit {0}) x (ok all))) (refused_owed x)

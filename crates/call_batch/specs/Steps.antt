@@ -1,10 +1,12 @@
 -- What the steps of a batch do: one job alone on what is left, and the refusals of the whole call.
-use Rattle.std.specs.Prelude.{◌≡◌, List, ◌++◌, Bool, cond, ℕ, ◌+◌, ◌-◌, ◌≤◌, T, leb, eqb, length, take, drop}
+use Rattle.std.specs.Prelude.{◌≡◌, List, ◌++◌, map, Bool, ℕ, ◌+◌, ◌-◌, ◌≤◌, T, leb, length, take, drop}
 use Rattle.meaning.specs.Answers as definition
+use Rattle.meaning.specs.Answers.{Result, need, ◌>>◌}
+use Rattle.meaning.specs.Records.{every}
 use Rattle.meaning.specs.Entries.{laid}
 use Rattle.meaning.specs.Batch as batch
 use Rattle.meaning.specs.Batch.{inside, parts_inside, alone, record_of}
-use Rattle.error.specs.Numbers.{numbers, in_numbers}
+use Rattle.error.specs.Numbers.{in_numbers}
 use Rattle.error.specs.declared.Answer.{Answer}
 use Rattle.call_batch.specs.Jobs.{part_of, job_of, answered}
 use Rattle.call_batch.specs.declared.Part.{Part}
@@ -51,19 +53,9 @@ Stepped s j out at r out' = (r ≡ step_of s j (length out) at) × (out' ≡ lai
 
 -- ---- the refusals of the whole call
 
--- 23 or 0
-abbrev pub counting : ℕ → ℕ
-counting n = cond (leb n 256) 0 23
-
 abbrev pub inside_of : ℕ → Part → Bool
 inside_of room p = inside room (part_of p)
 
--- the refusal so far, 24 or 0
-abbrev pub judging : ℕ → ℕ → Job → ℕ
-judging refusal room j = cond (eqb refusal 0) (cond (parts_inside room (job_of j)) 0 24) refusal
-
-abbrev pub doing : ℕ → ℕ → ℕ
-doing refusal n = cond (eqb refusal 0) n 0
-
-abbrev pub closing : ℕ → ℕ → Answer
-closing refusal n = cond (eqb refusal 0) (numbers 0 n 0 0) (numbers refusal 0 0 0)
+-- "more than 256 jobs" is 23, and then "a job whose part reaches outside the slice" is 24
+abbrev pub judgement : ℕ → List Job → Result (Unit {0})
+judgement room js = need (leb (length js) 256) 23 >> need (every (parts_inside room) (map job_of js)) 24

@@ -3,8 +3,10 @@
 #![tactic(auto)]
 
 ghost use Rattle.std.specs.Prelude.{◌≡◌, ◌+◌, ◌≤◌, ◌<◌, length};
-ghost use Rattle.call_batch.specs.Jobs.{Batched};
-ghost use Rattle.call_batch.specs.Steps.{OneDone, counting, inside_of, judging, doing, Ready, Stepped, closing};
+ghost use Rattle.meaning.specs.Batch.{parts_inside};
+ghost use Rattle.error.specs.Refusals.{paper};
+ghost use Rattle.call_batch.specs.Jobs.{job_of, Batched};
+ghost use Rattle.call_batch.specs.Steps.{OneDone, inside_of, judgement, Ready, Stepped};
 
 use error::{Answer, Refusal};
 
@@ -62,7 +64,7 @@ pub fn one_job(
 {
     let target_end = target + target_len;
     let args_end = args + args_len;
-    error::in_numbers(builtin::call_ctor(
+    Answer::from(builtin::call_ctor(
         stage,
         &bytes[target..target_end],
         &bytes[args..args_end],
@@ -103,16 +105,6 @@ fn do_job(bytes: &[u8], job: Job, out: &mut [u8], at: usize) -> Step
 
 // ---- the refusals of the whole call, before anything is written
 
-// 23, or 0.
-fn counted(count: usize) -> u8
-    ensures { result ≡ counting count }
-{
-    if count <= Limit::JOBS {
-        return 0;
-    }
-    Refusal::TOO_MANY_JOBS
-}
-
 // Start and length are not added: their sum may be past 64 bits.
 fn is_inside(room: usize, part: Part) -> bool
     ensures { result ≡ inside_of room part }
@@ -123,66 +115,45 @@ fn is_inside(room: usize, part: Part) -> bool
     part.len <= room - part.start
 }
 
-// The refusal so far, or 24 where the job's parts are not both inside a slice of so many bytes, or 0.
-#[tactic(auto, using(crate::proofs::Turns::judging_stays, crate::proofs::Turns::judging_inside, crate::proofs::Turns::judging_target, crate::proofs::Turns::judging_args,))]
-fn judged(refusal: u8, room: usize, job: Job) -> u8
-    ensures { result ≡ judging refusal room job }
+// Whether both parts of a job are inside a slice of so many bytes.
+fn parts_inside(room: usize, job: Job) -> bool
+    ensures { result ≡ parts_inside room (job_of job) }
 {
-    if refusal != 0 {
-        return refusal;
-    }
     let target = job.target;
     let args = job.args;
-    if is_inside(room, target) && is_inside(room, args) {
-        return 0;
-    }
-    Refusal::PART_OUTSIDE
+    is_inside(room, target) && is_inside(room, args)
 }
 
-// How many jobs are gone through: none where the call is refused.
-fn to_do(refusal: u8, count: usize) -> usize
-    ensures { result ≡ doing refusal count }
+// Whether the call is done at all: "more than 256 jobs" is 23, and then a part outside is 24.
+fn judged(room: usize, jobs: &[Job]) -> Result<(), Refusal>
+    ensures { paper result ≡ judgement room jobs.now }
 {
-    if refusal == 0 {
-        return count;
+    if jobs.len() > Limit::JOBS {
+        return Err(Refusal::TooManyJobs);
     }
-    0
-}
-
-// The call's own answer: the refusal, or how many bytes were written in all.
-fn whole(refusal: u8, written: usize) -> Answer
-    ensures { result ≡ closing refusal written }
-{
-    if refusal == 0 {
-        return Answer::accepted(written as u64);
+    for job in jobs {
+        if !parts_inside(room, *job) {
+            return Err(Refusal::PartOutside);
+        }
     }
-    Answer::refused(refusal)
+    Ok(())
 }
 
 // ---- the entry
 
-// The thin walk: the jobs' parts are looked at one after another, and then, where no refusal was found, each job is
-// done in its turn. Nothing is assumed of the bytes or of the jobs.
+// The thin walk: the jobs' parts are looked at first, and then, where no refusal was found, each job is done in its
+// turn. Nothing is assumed of the bytes or of the jobs.
 pub fn call_batch(bytes: &[u8], jobs: &mut [Job], out: &mut [u8]) -> Answer
     ensures { Batched bytes.now jobs.old out.old result jobs.new out.new }
 {
-    let mut refusal = counted(jobs.len());
-    let checks = to_do(refusal, jobs.len());
-    let mut i = 0;
-    while i < checks {
-        let job = jobs[i];
-        refusal = judged(refusal, bytes.len(), job);
-        i += 1;
+    if let Err(refusal) = judged(bytes.len(), jobs) {
+        return Answer::refused(refusal);
     }
-    let turns = to_do(refusal, jobs.len());
     let mut at = 0;
-    let mut k = 0;
-    while k < turns {
-        let job = jobs[k];
-        let step = do_job(bytes, job, out, at);
+    for k in 0..jobs.len() {
+        let step = do_job(bytes, jobs[k], out, at);
         at = step.next;
         jobs[k] = step.job;
-        k += 1;
     }
-    whole(refusal, at)
+    Answer::accepted(at as u64)
 }

@@ -19,8 +19,8 @@ use Rattle.meaning.specs.Typing.{total, memberwise_ty}
 use Rattle.laws.proofs.AgreeLit.{kind_back}
 use Rattle.kind.specs.Ends.{of_kind, tested}
 use Rattle.ty.specs.Heads.{head_of}
-use Rattle.ty.specs.declared.Head.TheVariants.{Scalar, Vector, Matrix, Array, Struct}
-use Rattle.ty.proofs.Heads.{scalar_is, vector_is, matrix_is, array_is, struct_is}
+use Rattle.ty.specs.declared.Head.TheVariants.{Scalar, Vector}
+use Rattle.ty.proofs.Heads.{scalar_is, vector_is}
 use Rattle.ty.specs.Stands.{Whole}
 use Rattle.rank.specs.Ranked.{KindConverts}
 use Rattle.ty.proofs.Bottom.{KindIs}
@@ -28,13 +28,12 @@ use Rattle.arg_types.specs.Given.{Given, Members}
 use Rattle.arg_types.specs.Components.{Passes}
 use Rattle.arg_types.proofs.Given.{MoreGiven}
 use Rattle.check_type.specs.Rules.{Rules, StructIs}
-use Rattle.check_type.specs.declared.Checked.{Checked}
-use Rattle.check_type.specs.declared.Checked.TheVariants as checked
+use Rattle.check_type.specs.Rules.{Checked}
+use Rattle.std.specs.declared.result.Result.TheVariants.{Ok, Err}
 
 pub rules_as : {A : Type 0} {x y : Result A} (a : A) (r : Checked) → x ≡ y → Rules y a r → Rules x a r
-rules_as a checked.Passed e h = e ∙ h
-rules_as a (checked.Refused n) e h = e ∙ h
-rules_as a (checked.Miscount w g) e h = e ∙ h
+rules_as a (Ok u) e h = e ∙ h
+rules_as a (Err n) e h = e ∙ h
 
 -- ---- the target is refused whatever the arguments are, or it is not
 
@@ -131,18 +130,6 @@ module _ {args : List ℕ} {a : Ty} (w : Whole args a) (m : ℕ) (j : Kind) wher
     pub one_other : (p ≡ m → ⊥) → type_vec_one m j a ≡ no 7
     unfolding type_vec_one
     one_other q = ap (type_vec_one m j) (vector_is w h).is ∙ (rw (ne_eqb p m q))
-
-  pub one_matrix : {c r k : ℕ} → Matrix c r k ≡ head_of a → type_vec_one m j a ≡ no 7
-  unfolding type_vec_one
-  one_matrix h = ap (type_vec_one m j) (matrix_is w h).is
-
-  pub one_array : {n : ℕ} → Array n ≡ head_of a → type_vec_one m j a ≡ no 7
-  unfolding type_vec_one
-  one_array h = ap (type_vec_one m j) (array_is w h).is
-
-  pub one_struct : {i n : ℕ} → Struct i n ≡ head_of a → type_vec_one m j a ≡ no 7
-  unfolding type_vec_one
-  one_struct h = ap (type_vec_one m j) (struct_is w h).is
 
 module _ (m : ℕ) (j : Kind) (l : List Ty) {r : Bool} (p : Passes 12 (all (part_to j) l) r) where
   pub parts_not : r ≡ false → type_vec m j l ≡ no 12

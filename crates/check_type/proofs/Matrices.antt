@@ -1,29 +1,19 @@
 -- The rules for matrices, by what the code asks.
-use mathlib.Core.Path.{◌≡◌, refl, ap, ◌∙◌}
+use mathlib.Core.Path.{◌≡◌, refl}
+use mathlib.Core.Bool.{Bool}
 use mathlib.Core.Option.{none, some}
 use mathlib.Core.List.{List, [], ◌∷◌}
 use Prim.Native.Nat.{ℕ}
 use lib.ListN.{length}
 use Rattle.meaning.specs.Kinds.{Kind}
 use Rattle.meaning.specs.Trees.{Ty, Ts, Tv, Tm, Ta, Tu}
-use Rattle.meaning.specs.Answers.{Result, ok, no, ◌>>◌}
+use Rattle.meaning.specs.Answers.{ok, no, need, ◌>>◌}
 use Rattle.meaning.specs.Convert.{common}
-use Rattle.meaning.specs.Build.{mat_shape, to_inner}
+use Rattle.meaning.specs.Build.{mat_shape, same_size, to_inner}
 use Rattle.meaning.specs.Typing.{typeable, type_one, type_more, type_mat, type_mat_one}
 use Rattle.laws.proofs.AgreeQm.{shape_set}
 use Rattle.shape.proofs.Downs.{GoesTo}
-use Rattle.arg_types.specs.Given.{LikeIs}
-use Rattle.arg_types.specs.declared.Single.TheVariants.{Like, Unlike, Other}
-use Rattle.arg_types.proofs.Singles.{size_refl}
-use Rattle.check_type.specs.Rules.{Rules, type_down}
-use Rattle.check_type.specs.declared.Checked.{Checked}
-use Rattle.check_type.specs.declared.Checked.TheVariants as checked
-
--- what the shape says, before a type is named
-pub rules_then : {A : Type 0} (x : Result (Unit {0})) (a : A) (r : Checked) → Rules x tt r → Rules (x >> ok a) a r
-rules_then x a checked.Passed h = ap (λ (y : Result (Unit {0})). y >> ok a) h
-rules_then x a (checked.Refused n) h = ap (λ (y : Result (Unit {0})). y >> ok a) h
-rules_then x a (checked.Miscount w g) h = ap (λ (y : Result (Unit {0})). y >> ok a) h
+use Rattle.check_type.specs.Rules.{type_down}
 
 -- ---- down to the target's kind
 
@@ -49,20 +39,18 @@ module _ (c r : ℕ) (k : Kind) (l : List Ty) where
 
 -- ---- one matrix
 
-module _ (c r : ℕ) (j : Kind) (t : Ty) where
-  pub mat_like : {k : ℕ} → LikeIs c r t (Like k) → type_mat_one c r j t ≡ ok (Tm c r j)
+module _ (c r : ℕ) (j : Kind) {t : Ty} where
+  -- of whichever size
+  pub mat_sized : {a b : ℕ} {k : Kind} → t ≡ Tm a b k → {s : Bool} → same_size c r a b ≡ s
+      → type_mat_one c r j t ≡ (need s 7 >> ok (Tm c r j))
   unfolding type_mat_one
-  mat_like x = ap (type_mat_one c r j) x.2 ∙ (rw (size_refl c r))
+  mat_sized e q = rw (e, q)
 
-  pub mat_unlike : LikeIs c r t Unlike → type_mat_one c r j t ≡ no 7
-  unfolding type_mat_one
-  mat_unlike x = ap (type_mat_one c r j) x.3 ∙ (rw x.4)
-
-  pub mat_other : LikeIs c r t Other → type_mat_one c r j t ≡ type_mat c r j (t ∷ [])
+  pub mat_other : ((a b : ℕ) (k : Kind) → t ≡ Tm a b k → ⊥) → type_mat_one c r j t ≡ type_mat c r j (t ∷ [])
   unfolding type_mat_one
   mat_other f = go t f
     where
-      go : (u : Ty) → LikeIs c r u Other → type_mat_one c r j u ≡ type_mat c r j (u ∷ [])
+      go : (u : Ty) → ((a b : ℕ) (k : Kind) → u ≡ Tm a b k → ⊥) → type_mat_one c r j u ≡ type_mat c r j (u ∷ [])
       go (Ts k) f = refl
       go (Tv n k) f = refl
       go (Tm a b k) f = absurd (f a b k refl)

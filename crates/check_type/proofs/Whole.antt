@@ -19,7 +19,7 @@ use Rattle.args.proofs.Rest.{within_of, short_of}
 use Rattle.arg_types.specs.Given.{Given}
 use Rattle.check_type.specs.Rules.{OfRules, ScalarChecks, VectorChecks, MatrixChecks, ArrayChecks, StructChecks, StructIs}
 use Rattle.check_type.specs.Rules.{SomeStruct, WholeType}
-use Rattle.check_type.specs.declared.Checked.{Checked}
+use Rattle.check_type.specs.Rules.{Checked}
 
 -- ---- a struct's members as a row
 

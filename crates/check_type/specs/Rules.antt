@@ -3,22 +3,23 @@ use Rattle.std.specs.Prelude.{◌≡◌, List, [], ◌∷◌, ℕ, T, length}
 use Rattle.meaning.specs.Kinds.{Kind, kind_no}
 use Rattle.meaning.specs.Trees.{Ty, Ts, Tv, Tm, Ta, Tu, Tys, Of, tys_list}
 use Rattle.meaning.specs.Records.{good_ty}
-use Rattle.meaning.specs.Answers.{Result, ok, no, miscount, or_no, ◌>>=◌, ◌>>◌}
+use Rattle.meaning.specs.Answers.{Result, ok, or_no, ◌>>=◌, ◌>>◌}
 use Rattle.meaning.specs.Build.{mat_shape, to_inner}
 use Rattle.meaning.specs.Typing.{typed, type_vec_one, type_vec, type_mat, type_mat_one}
 use Rattle.ty.specs.Stands.{Stands, Whole}
 use Rattle.shape.specs.TypeRows.{TypeRow}
-use Rattle.shape.specs.Matrices.{shape_of}
-use Rattle.shape.specs.declared.Shape.{Shape}
 use Rattle.arg_types.specs.Given.{Given}
-use Rattle.check_type.specs.declared.Checked.{Checked}
-use Rattle.check_type.specs.declared.Checked.TheVariants as checked
+use Rattle.error.specs.Refusals.{refusal, Refusing}
+use Rattle.std.specs.declared.result.Result.TheVariants.{Ok, Err}
+
+-- what a check answers: that it passes, or a refusal
+abbrev pub Checked : Type 0
+Checked = Refusing (Unit {0})
 
 -- the rule x gives a, or the refusal that is answered
 abbrev pub Rules : {A : Type 0} → Result A → A → Checked → Type 0
-Rules x a checked.Passed = x ≡ ok a
-Rules x a (checked.Refused n) = x ≡ no n
-Rules x a (checked.Miscount w g) = x ≡ miscount w g
+Rules x a (Ok u) = x ≡ ok a
+Rules x a (Err y) = x ≡ refusal y
 
 -- ---- a type record as its target: what is accepted is the target itself
 
@@ -53,10 +54,6 @@ abbrev pub StructChecks : List ℕ → ℕ → List ℕ → ℕ → Checked → 
 StructChecks target m args n r = (i : ℕ) (ms : Tys) (l : List Ty) → StructIs target m ms → Given args n l → OfRules (Tu i ms) l r
 
 -- ---- a matrix by its arguments
-
--- what the shape of the arguments says of the rule y for their type t
-abbrev pub ShapeChecks : Shape → Checked → Type 0
-ShapeChecks x r = (t : Ty) (y : Result (Unit {0})) → x ≡ shape_of t y → Rules y tt r
 
 -- from the common type t on: "7 if that doesn't convert", then the shape
 unfoldable pub type_down : ℕ → ℕ → Kind → ℕ → Ty → Result Ty

@@ -21,12 +21,12 @@ use Rattle.ty.proofs.Lens.{times_more}
 use Rattle.record.specs.Bytes.{Takes, Put}
 use Rattle.conv.specs.Values.{plain, plains}
 use Rattle.record.proofs.Puts.{put_put}
-use Rattle.record.proofs.Left.{Left, left_all, left_room, left_on, left_end, left_same}
+use Rattle.record.proofs.Left.{Left, one_less, left_room, left_on, left_end, left_same}
 use Rattle.conv.proofs.Values.{Scan, list_scan}
 use Rattle.laws.proofs.Each.{some_length}
 use Rattle.args.specs.Row.{Row, SomeArg, NextIs, Skips}
 use Rattle.args.proofs.ArgumentRows.{row_shaped}
-use Rattle.columns.specs.Columns.{Skipped, SomeFront, SkipsTo, Column, ColumnRoom, ColumnPut, Scalars}
+use Rattle.columns.specs.Columns.{Skipped, SomeFront, SkipsTo, Column, ColumnRoom, ColumnPut}
 
 -- ---- vectors are the columns
 
@@ -154,11 +154,12 @@ skip_one {s} {i} {n} {m} {e} {v} {l} x y z =
       rest = z.rest;
     }
 
-pub record SkipLeft (s : List ℕ) (i n : ℕ) (l : List Val) (e left : ℕ) : Type 0 where
+-- of n arguments, `done` are passed, and the next stands at e
+pub record SkipLeft (s : List ℕ) (i n : ℕ) (l : List Val) (e done : ℕ) : Type 0 where
   pub values : List Val
   pub row : Row s e values
-  pub enough : left ≤ length values
-  pub whole : (x : ℕ) → Skipped s e left values x → Skipped s i n l x
+  pub enough : n - done ≤ length values
+  pub whole : (x : ℕ) → Skipped s e (n - done) values x → Skipped s i n l x
 
 -- the first of some arguments
 record ArgIs (l : List Val) : Type 0 where
@@ -170,8 +171,8 @@ arg_is : (l : List Val) → 0 < length l → ArgIs l
 arg_is [] h = absurd (omega arith)
 arg_is (v ∷ l) h = record { first = v; others = l; is = refl }
 
-module _ {s : List ℕ} {i n : ℕ} {l : List Val} {e left : ℕ} (g : SkipLeft s i n l e left) where
-  module _ (h : 0 < left) where
+module _ {s : List ℕ} {i n : ℕ} {l : List Val} {e done : ℕ} (g : SkipLeft s i n l e done) where
+  module _ (h : done < n) where
     next : ArgIs g.values
     next = arg_is g.values (omega (arith, g.enough))
 
@@ -181,20 +182,20 @@ module _ {s : List ℕ} {i n : ℕ} {l : List Val} {e left : ℕ} (g : SkipLeft 
     pub skip_arg : SomeArg s e
     skip_arg = record { value = next.first; others = next.others; row = row }
 
-    pub skip_on : {m : ℕ} → Skips s e m → SkipLeft s i n l m (left - 1)
+    pub skip_on : {m : ℕ} → Skips s e m → SkipLeft s i n l m (done + 1)
     skip_on {m} f =
         let y = f next.first next.others row in
-        let q : left ≡ suc (left - 1) = omega arith in
+        let q : n - done ≡ suc (n - (done + 1)) = omega arith in
         record {
           values = next.others;
           row = y.rest;
           enough = omega (arith, g.enough, ap length next.is);
-          whole = λ x z. g.whole x (subst (λ (t : List Val). Skipped s e left t x) (sym next.is)
+          whole = λ x z. g.whole x (subst (λ (t : List Val). Skipped s e (n - done) t x) (sym next.is)
               (subst (λ (k : ℕ). Skipped s e k (next.first ∷ next.others) x) (sym q) (skip_one row y z)));
         }
 
-  pub skip_end : left ≡ 0 → Skipped s i n l e
-  skip_end h = g.whole e (subst (λ (k : ℕ). Skipped s e k g.values e) (sym h) (skip_none g.row))
+  pub skip_end : done ≡ n → Skipped s i n l e
+  skip_end h = let z : n - done ≡ 0 = omega arith in g.whole e (subst (λ (k : ℕ). Skipped s e k g.values e) (sym z) (skip_none g.row))
 
 -- ---- one column
 
@@ -220,39 +221,30 @@ unfolding columns
 columns_step zero r ps h = absurd (omega arith)
 columns_step (suc c) r ps h = let e : suc c - 1 ≡ c = omega arith in rw e
 
--- ---- the loop over columns: what writes the rest makes the whole
+-- ---- the loop over columns: of c, `done` are written; what writes the rest makes the whole
 
-pub record ColumnsLeft (j : Kind) (s : List ℕ) (c r : ℕ) (out₀ : List ℕ) (to : ℕ) (qs : List ℕ) (i p left : ℕ) (out : List ℕ) : Type 0 where
+pub record ColumnsLeft (j : Kind) (s : List ℕ) (c r : ℕ) (out₀ : List ℕ) (to : ℕ) (qs : List ℕ) (i p done : ℕ) (out : List ℕ) : Type 0 where
   pub values : List Val
   pub pays : List ℕ
   pub row : Row s i values
   pub goes : all_some (conv_lits j) values ≡ some (map (Vs j) pays)
-  pub count : length pays ≡ left * r
-  pub rest : Left out₀ to (joined (vec_bytes j) (columns c r qs)) out p (joined (vec_bytes j) (columns left r pays))
+  pub count : length pays ≡ (c - done) * r
+  pub rest : Left out₀ to (joined (vec_bytes j) (columns c r qs)) out p (joined (vec_bytes j) (columns (c - done) r pays))
 
-pub columns_all : {c r k : ℕ} {s : List ℕ} {j : Kind} {qs : List ℕ} (out : List ℕ) (to : ℕ) → Scalars c r k s j qs
-    → ColumnsLeft j s c r out to qs 0 to c out
-columns_all {qs = qs} out to x = record {
-  values = x.values;
-  pays = qs;
-  row = x.row;
-  goes = x.goes;
-  count = x.count;
-  rest = left_all
-      out to _;
-}
+module _ {j : Kind} {s : List ℕ} {c r : ℕ} {out₀ : List ℕ} {to : ℕ} {qs : List ℕ} {i p done : ℕ} {out : List ℕ}
+    (g : ColumnsLeft j s c r out₀ to qs i p done out) where
+  module _ (h : done < c) where
+    more : 0 < c - done
+    more = omega arith
 
-module _ {j : Kind} {s : List ℕ} {c r : ℕ} {out₀ : List ℕ} {to : ℕ} {qs : List ℕ} {i p left : ℕ} {out : List ℕ}
-    (g : ColumnsLeft j s c r out₀ to qs i p left out) where
-  module _ (h : 0 < left) where
-    before : length g.pays ≡ suc (left - 1) * r
-    before = let n : left ≡ suc (left - 1) = omega arith in g.count ∙ ap (λ (x : ℕ). x * r) n
+    before : length g.pays ≡ suc (c - done - 1) * r
+    before = let n : c - done ≡ suc (c - done - 1) = omega arith in g.count ∙ ap (λ (x : ℕ). x * r) n
 
     many : length g.values ≡ length g.pays
     many = sym (some_length (conv_lits j) g.values (map (Vs j) g.pays) g.goes) ∙ length-map g.pays (Vs j)
 
     enough : r ≤ length g.values
-    enough = omega (arith, many, g.count, times_more left r h)
+    enough = omega (arith, many, g.count, times_more (c - done) r more)
 
     pub columns_front : SomeFront s i r
     columns_front = record { values = g.values; row = g.row; enough = enough }
@@ -269,13 +261,13 @@ module _ {j : Kind} {s : List ℕ} {c r : ℕ} {out₀ : List ℕ} {to : ℕ} {q
             bytes = skipped.front;
             shaped = skipped.shaped;
             goes = all_take (conv_lits j) r g.values (map (Vs j) g.pays) g.goes ∙ ap some (map_take j r g.pays);
-            rows = take_len (left - 1) r g.pays before;
+            rows = take_len (c - done - 1) r g.pays before;
           }
 
-      bytes : joined (vec_bytes j) (columns left r g.pays) ≡ vec_bytes j (take r g.pays) ++ joined (vec_bytes j)
-          (columns (left - 1) r (drop r g.pays))
+      bytes : joined (vec_bytes j) (columns (c - done) r g.pays) ≡ vec_bytes j (take r g.pays) ++ joined (vec_bytes j)
+          (columns (c - done - 1) r (drop r g.pays))
       unfolding joined
-      bytes = ap (joined (vec_bytes j)) (columns_step left r g.pays h)
+      bytes = ap (joined (vec_bytes j)) (columns_step (c - done) r g.pays more)
 
       pub columns_room : {k : ℕ} → k ≡ kind_no j → Takes out₀ to (joined (vec_bytes j) (columns c r qs)) → ColumnRoom k r s i e out p
       columns_room n l =
@@ -283,23 +275,23 @@ module _ {j : Kind} {s : List ℕ} {c r : ℕ} {out₀ : List ℕ} {to : ℕ} {q
             kind = j;
             pays = take r g.pays;
             column = left_column n;
-            room = left_room g.rest (vec_bytes j (take r g.pays)) (joined (vec_bytes j) (columns (left - 1) r (drop r g.pays)))
+            room = left_room g.rest (vec_bytes j (take r g.pays)) (joined (vec_bytes j) (columns (c - done - 1) r (drop r g.pays)))
                 bytes (omega (arith, l, left_same g.rest));
           }
 
       pub columns_on : {k q : ℕ} {out' : List ℕ} → k ≡ kind_no j → ColumnPut k r s i e out p q out'
-          → ColumnsLeft j s c r out₀ to qs e q (left - 1) out'
+          → ColumnsLeft j s c r out₀ to qs e q (done + 1) out'
       columns_on n z =
           record {
             values = drop r g.values;
             pays = drop r g.pays;
             row = skipped.rest;
             goes = all_drop (conv_lits j) r g.values (map (Vs j) g.pays) g.goes ∙ ap some (map_drop j r g.pays);
-            count = drop_len (left - 1) r g.pays before;
-            rest = left_on g.rest (vec_bytes j (take r g.pays)) (joined (vec_bytes j) (columns (left - 1) r (drop r g.pays))) bytes
-                (z j (take r g.pays) (left_column n));
+            count = rw (← one_less c done) (drop_len (c - done - 1) r g.pays before);
+            rest = rw (← one_less c done) (left_on g.rest (vec_bytes j (take r g.pays)) (joined (vec_bytes j) (columns (c - done - 1) r (drop r g.pays))) bytes
+                (z j (take r g.pays) (left_column n)));
           }
 
-  pub columns_end : left ≡ 0 → Put out₀ to (joined (vec_bytes j) (columns c r qs)) p out
+  pub columns_end : done ≡ c → Put out₀ to (joined (vec_bytes j) (columns c r qs)) p out
   unfolding joined columns
-  columns_end h = left_end g.rest (rw h)
+  columns_end h = let z : c - done ≡ 0 = omega arith in left_end g.rest (rw z)

@@ -17,10 +17,11 @@ use Rattle.record.specs.Bytes.{Put}
 use Rattle.record.proofs.Puts.{put_put}
 use Rattle.conv.proofs.Values.{Scan, list_scan}
 use Rattle.error.specs.Told.{Builds}
-use Rattle.error.specs.declared.Written.TheVariants.{Record, Refused}
 use Rattle.error.proofs.BufferAtExit.{builds_long, builds_record}
 use Rattle.args.proofs.ArgumentRows.{row_bytes, each_shaped}
 use Rattle.columns.specs.Columns.{Vectors}
+use Rattle.std.specs.declared.result.Result.TheVariants.{Ok, Err}
+use Rattle.error.specs.declared.Refusal.TheVariants.{NoRoom}
 
 module _ (c r : ℕ) (j : Kind) (qs : List ℕ) (g : T (shaped_val (Vm c r j qs))) where
   long : 4 + length (joined (vec_bytes j) (columns c r qs)) ≡ val_len (Tm c r j)
@@ -28,7 +29,7 @@ module _ (c r : ℕ) (j : Kind) (qs : List ℕ) (g : T (shaped_val (Vm c r j qs)
   long = omega (arith, val_len_lem (Vm c r j qs) g)
 
   -- what `room_for` says
-  pub hands_long : (out : List ℕ) → leb (val_len (Tm c r j)) (length out) ≡ false → Builds (ok (Vm c r j qs)) out (Refused 22) out
+  pub hands_long : (out : List ℕ) → leb (val_len (Tm c r j)) (length out) ≡ false → Builds (ok (Vm c r j qs)) out (Err NoRoom) out
   unfolding type_of
   hands_long out h = builds_long out (Vm c r j qs) refl (leb-false (val_len (Tm c r j)) (length out) h)
 
@@ -42,12 +43,12 @@ module _ (c r : ℕ) (j : Kind) (qs : List ℕ) (g : T (shaped_val (Vm c r j qs)
     hands_whole = omega (arith, val_len_lem (Vm c r j qs) g, leb-true (val_len (Tm c r j)) m h)
 
   module _ (out : List ℕ) (h : leb (val_len (Tm c r j)) (length out) ≡ true) where
-    pub hands_put : {out' : List ℕ} {x : ℕ} → Put out 0 (val_bytes (Vm c r j qs)) x out' → Builds (ok (Vm c r j qs)) out (Record x) out'
+    pub hands_put : {out' : List ℕ} {x : ℕ} → Put out 0 (val_bytes (Vm c r j qs)) x out' → Builds (ok (Vm c r j qs)) out (Ok x) out'
     unfolding type_of
     hands_put p = builds_record out (Vm c r j qs) refl g (leb-true (val_len (Tm c r j)) (length out) h) p
 
     pub hands_record : {mid out' : List ℕ} {p x : ℕ} → Put out 0 (‘V’ ∷ ‘m’ ∷ c ∷ r ∷ []) p mid
-        → Put mid p (joined (vec_bytes j) (columns c r qs)) x out' → Builds (ok (Vm c r j qs)) out (Record x) out'
+        → Put mid p (joined (vec_bytes j) (columns c r qs)) x out' → Builds (ok (Vm c r j qs)) out (Ok x) out'
     unfolding val_bytes
     hands_record a b = hands_put (put_put a b)
 

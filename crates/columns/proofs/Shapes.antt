@@ -19,8 +19,7 @@ use Rattle.laws.proofs.AgreeConv.{AllTy}
 use Rattle.laws.proofs.SoundVal.{joined_vals}
 use Rattle.laws.proofs.Each.{some_length}
 use Rattle.shape.specs.declared.Shape.TheVariants as shape
-use Rattle.shape.specs.Matrices.{way_of, shape_of}
-use Rattle.shape.proofs.Matrices.{scalars_ok, columns_ok}
+use Rattle.shape.specs.Matrices.{way_of}
 use Rattle.columns.specs.Columns.{Scalars, Vectors}
 use Rattle.columns.specs.ColumnParts.{Parts}
 use Rattle.columns.proofs.Columns.{vectors_are, scalars_are}
@@ -31,22 +30,17 @@ record ScalarWay (c r n : ℕ) (t : Ty) : Type 0 where
   is : t ≡ Ts kind
   count : n ≡ c * r
 
-scalar_way : (c r n : ℕ) (t : Ty) → shape.Scalars ≡ shape_of t (mat_shape c r t n) → ScalarWay c r n t
-unfolding shape_of way_of mat_shape
-scalar_way c r n (Ts k) h = go (eqb n (c * r)) refl h
+scalar_way : (c r n : ℕ) (t : Ty) → (mat_shape c r t n ≡ ok tt) × (shape.Scalars ≡ way_of t) → ScalarWay c r n t
+unfolding way_of mat_shape
+scalar_way c r n (Ts k) h = go (eqb n (c * r)) refl h.0
   where
-    go : (b : Bool) → eqb n (c * r) ≡ b → shape.Scalars ≡ shape_of (Ts k) (need_count b (c * r) n) → ScalarWay c r n (Ts k)
+    go : (b : Bool) → eqb n (c * r) ≡ b → need_count b (c * r) n ≡ ok tt → ScalarWay c r n (Ts k)
     go true q h = record { kind = k; is = refl; count = eqb→eq n (c * r) (subst T (sym q) tt) }
     go false q h = absurd (let z : ◌≡◌ {A = ℕ} 0 1 = cc in omega arith)
-scalar_way c r n (Tv m k) h = go (eqb m r) (eqb n c) h
-  where
-    go : (a b : Bool) → shape.Scalars ≡ shape_of (Tv m k) (need a 14 >> need_count b c n) → ScalarWay c r n (Tv m k)
-    go true true h = absurd (let z : ◌≡◌ {A = ℕ} 0 1 = cc in omega arith)
-    go true false h = absurd (let z : ◌≡◌ {A = ℕ} 0 1 = cc in omega arith)
-    go false b h = absurd (let z : ◌≡◌ {A = ℕ} 0 1 = cc in omega arith)
-scalar_way c r n (Tm a b k) h = absurd (let z : ◌≡◌ {A = ℕ} 0 1 = cc in omega arith)
-scalar_way c r n (Ta m t) h = absurd (let z : ◌≡◌ {A = ℕ} 0 1 = cc in omega arith)
-scalar_way c r n (Tu i m) h = absurd (let z : ◌≡◌ {A = ℕ} 0 1 = cc in omega arith)
+scalar_way c r n (Tv m k) h = absurd (let e = h.1 in let z : ◌≡◌ {A = ℕ} 0 1 = cc in omega arith)
+scalar_way c r n (Tm a b k) h = absurd (let e = h.1 in let z : ◌≡◌ {A = ℕ} 0 1 = cc in omega arith)
+scalar_way c r n (Ta m t) h = absurd (let e = h.1 in let z : ◌≡◌ {A = ℕ} 0 1 = cc in omega arith)
+scalar_way c r n (Tu i m) h = absurd (let e = h.1 in let z : ◌≡◌ {A = ℕ} 0 1 = cc in omega arith)
 
 -- the arguments are c columns of length r
 record ColumnWay (c r n : ℕ) (t : Ty) : Type 0 where
@@ -54,17 +48,12 @@ record ColumnWay (c r n : ℕ) (t : Ty) : Type 0 where
   is : t ≡ Tv r kind
   count : n ≡ c
 
-column_way : (c r n : ℕ) (t : Ty) → shape.Columns ≡ shape_of t (mat_shape c r t n) → ColumnWay c r n t
-unfolding shape_of way_of mat_shape
-column_way c r n (Ts k) h = go (eqb n (c * r)) h
+column_way : (c r n : ℕ) (t : Ty) → (mat_shape c r t n ≡ ok tt) × (shape.Columns ≡ way_of t) → ColumnWay c r n t
+unfolding way_of mat_shape
+column_way c r n (Ts k) h = absurd (let e = h.1 in let z : ◌≡◌ {A = ℕ} 0 1 = cc in omega arith)
+column_way c r n (Tv m k) h = go (eqb m r) (eqb n c) refl refl h.0
   where
-    go : (b : Bool) → shape.Columns ≡ shape_of (Ts k) (need_count b (c * r) n) → ColumnWay c r n (Ts k)
-    go true h = absurd (let z : ◌≡◌ {A = ℕ} 0 1 = cc in omega arith)
-    go false h = absurd (let z : ◌≡◌ {A = ℕ} 0 1 = cc in omega arith)
-column_way c r n (Tv m k) h = go (eqb m r) (eqb n c) refl refl h
-  where
-    go : (a b : Bool) → eqb m r ≡ a → eqb n c ≡ b → shape.Columns ≡ shape_of (Tv m k) (need a 14 >> need_count b c n)
-        → ColumnWay c r n (Tv m k)
+    go : (a b : Bool) → eqb m r ≡ a → eqb n c ≡ b → (need a 14 >> need_count b c n) ≡ ok tt → ColumnWay c r n (Tv m k)
     go true true p q h = record {
       kind = k;
       is = ap (λ (i : ℕ). Tv i k) (eqb→eq m r (subst T (sym p) tt));
@@ -73,9 +62,9 @@ column_way c r n (Tv m k) h = go (eqb m r) (eqb n c) refl refl h
     }
     go true false p q h = absurd (let z : ◌≡◌ {A = ℕ} 0 1 = cc in omega arith)
     go false b p q h = absurd (let z : ◌≡◌ {A = ℕ} 0 1 = cc in omega arith)
-column_way c r n (Tm a b k) h = absurd (let z : ◌≡◌ {A = ℕ} 0 1 = cc in omega arith)
-column_way c r n (Ta m t) h = absurd (let z : ◌≡◌ {A = ℕ} 0 1 = cc in omega arith)
-column_way c r n (Tu i m) h = absurd (let z : ◌≡◌ {A = ℕ} 0 1 = cc in omega arith)
+column_way c r n (Tm a b k) h = absurd (let z : ◌≡◌ {A = ℕ} 0 1 = cc (h.0) in omega arith)
+column_way c r n (Ta m t) h = absurd (let z : ◌≡◌ {A = ℕ} 0 1 = cc (h.0) in omega arith)
+column_way c r n (Tu i m) h = absurd (let z : ◌≡◌ {A = ℕ} 0 1 = cc (h.0) in omega arith)
 
 -- ---- the arguments whose shape is right
 
@@ -89,21 +78,15 @@ module _ {k : ℕ} {ty s : List ℕ} {count : ℕ} {j : Kind} {t : Ty} {l ws : L
   full : leaf (set_leaf j t) ≡ some j → mat_shape c r t count ≡ ok tt → T (shaped_val (Vm c r j (payloads_of_all ws)))
   full e h = shape_pay c r (set_leaf j t) j count e (shape_set c r t j count ∙ h) ws x.shaped x.types counted
 
-  pub scalars_shape : shape.Scalars ≡ shape_of t (mat_shape c r t count) → mat_shape c r t count ≡ ok tt
-  scalars_shape h = scalars_ok t (mat_shape c r t count) h
-
-  pub columns_shape : shape.Columns ≡ shape_of t (mat_shape c r t count) → mat_shape c r t count ≡ ok tt
-  columns_shape h = columns_ok t (mat_shape c r t count) h
-
-  pub scalars_full : shape.Scalars ≡ shape_of t (mat_shape c r t count) → T (shaped_val (Vm c r j (payloads_of_all ws)))
+  pub scalars_full : (mat_shape c r t count ≡ ok tt) × (shape.Scalars ≡ way_of t) → T (shaped_val (Vm c r j (payloads_of_all ws)))
   unfolding leaf set_leaf
-  scalars_full h = full (rw (scalar_way c r count t h).is) (scalars_shape h)
+  scalars_full h = full (rw (scalar_way c r count t h).is) h.0
 
-  pub columns_full : shape.Columns ≡ shape_of t (mat_shape c r t count) → T (shaped_val (Vm c r j (payloads_of_all ws)))
+  pub columns_full : (mat_shape c r t count ≡ ok tt) × (shape.Columns ≡ way_of t) → T (shaped_val (Vm c r j (payloads_of_all ws)))
   unfolding leaf set_leaf
-  columns_full h = full (rw (column_way c r count t h).is) (columns_shape h)
+  columns_full h = full (rw (column_way c r count t h).is) h.0
 
-  pub parts_scalars : shape.Scalars ≡ shape_of t (mat_shape c r t count) → Scalars c r k s j (payloads_of_all ws)
+  pub parts_scalars : (mat_shape c r t count ≡ ok tt) × (shape.Scalars ≡ way_of t) → Scalars c r k s j (payloads_of_all ws)
   unfolding set_leaf
   parts_scalars h =
       let y = scalar_way c r count t h in
@@ -117,7 +100,7 @@ module _ {k : ℕ} {ty s : List ℕ} {count : ℕ} {j : Kind} {t : Ty} {l ws : L
         count = sym (length-map (payloads_of_all ws) (Vs j)) ∙ (sym (ap length q) ∙ (many ∙ y.count));
       }
 
-  pub parts_vectors : shape.Columns ≡ shape_of t (mat_shape c r t count) → Vectors c r k s j (payloads_of_all ws)
+  pub parts_vectors : (mat_shape c r t count ≡ ok tt) × (shape.Columns ≡ way_of t) → Vectors c r k s j (payloads_of_all ws)
   unfolding set_leaf
   parts_vectors h =
       let y = column_way c r count t h in

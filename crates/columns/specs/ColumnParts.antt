@@ -12,7 +12,7 @@ use Rattle.ty.specs.Stands.{Stands}
 use Rattle.conv.specs.Values.{plains}
 use Rattle.args.specs.Row.{Row}
 use Rattle.error.specs.Told.{Builds}
-use Rattle.error.specs.declared.Written.{Written}
+use Rattle.error.specs.Told.{Written}
 
 -- the arguments are l, which in the kind j are ws, all of the type t with j at the bottom; the record of t stands in ty
 pub record Parts (k : ℕ) (ty s : List ℕ) (count : ℕ) (j : Kind) (t : Ty) (l ws : List Val) : Type 0 where

@@ -11,7 +11,7 @@ use Rattle.record.specs.Values.{BytesAt}
 use Rattle.conv.specs.Values.{plains}
 use Rattle.args.specs.Row.{Row}
 use Rattle.error.specs.Told.{Builds}
-use Rattle.error.specs.declared.Written.{Written}
+use Rattle.error.specs.Told.{Written}
 
 -- ---- some of the arguments
 

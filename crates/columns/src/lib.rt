@@ -6,7 +6,7 @@ ghost use Rattle.columns.specs.Columns.{SomeFront, SkipsTo, ColumnRoom, ColumnPu
 ghost use Rattle.columns.specs.Columns.{RoomFor, SomeMatrix, Hands};
 ghost use Rattle.columns.specs.ColumnParts.{SomeParts, PartsMade};
 
-use error::{Refusal, Written};
+use error::Refusal;
 use shape::Shape;
 
 // Where the first n of the arguments from i on end.
@@ -15,10 +15,8 @@ fn skip(args: &[u8], i: usize, n: u8) -> usize
     ensures { SkipsTo args.now i n result }
 {
     let mut e = i;
-    let mut left = n;
-    while 0 < left {
+    for _ in 0..n {
         e = args::next_arg(args, e);
-        left -= 1;
     }
     e
 }
@@ -39,12 +37,10 @@ fn put_columns(c: u8, r: u8, k: u8, args: &[u8], out: &mut [u8], to: usize) -> u
 {
     let mut i = 0;
     let mut p = to;
-    let mut left = c;
-    while 0 < left {
+    for _ in 0..c {
         let e = skip(args, i, r);
         p = put_column(args, i, e, r, k, out, p);
         i = e;
-        left -= 1;
     }
     p
 }
@@ -57,27 +53,27 @@ pub fn room_for(c: u8, r: u8, k: u8, room: usize) -> bool
 }
 
 // The matrix of scalars, if there is room for it.
-fn write_scalars(c: u8, r: u8, k: u8, args: &[u8], out: &mut [u8]) -> Written
+fn write_scalars(c: u8, r: u8, k: u8, args: &[u8], out: &mut [u8]) -> Result<usize, Refusal>
     requires { SomeMatrix c r (Scalars c r k args.now) }
     ensures { Hands c r (Scalars c r k args.now) out.old result out.new }
 {
     if !room_for(c, r, k, out.len()) {
-        return Written::Refused(Refusal::NO_ROOM);
+        return Err(Refusal::NoRoom);
     }
     let p = record::put_four(out, 0, b'V', b'm', c, r);
-    Written::Record(put_columns(c, r, k, args, out, p))
+    Ok(put_columns(c, r, k, args, out, p))
 }
 
 // The matrix of vectors, which are its columns, if there is room for it.
-fn write_vectors(c: u8, r: u8, k: u8, args: &[u8], out: &mut [u8]) -> Written
+fn write_vectors(c: u8, r: u8, k: u8, args: &[u8], out: &mut [u8]) -> Result<usize, Refusal>
     requires { SomeMatrix c r (Vectors c r k args.now) }
     ensures { Hands c r (Vectors c r k args.now) out.old result out.new }
 {
     if !room_for(c, r, k, out.len()) {
-        return Written::Refused(Refusal::NO_ROOM);
+        return Err(Refusal::NoRoom);
     }
     let p = record::put_four(out, 0, b'V', b'm', c, r);
-    Written::Record(conv::convert_items(args, 0, args.len(), k, out, p))
+    Ok(conv::convert_items(args, 0, args.len(), k, out, p))
 }
 
 // The matrix of arguments that convert to the kind k, whose type is the one that `ty` is, but for its kind.
@@ -89,16 +85,14 @@ pub fn of_parts(
     args: &[u8],
     count: usize,
     out: &mut [u8],
-) -> Written
+) -> Result<usize, Refusal>
     requires { SomeParts k ty.now args.now count }
     ensures { PartsMade c r k ty.now args.now count out.old result out.new }
 {
     // taken anew: its two words are read one by one, not copied at once (docs/DECISIONS.md, 66)
     let a = &args[..];
-    match shape::matrix_shape(c, r, ty, count) {
+    match shape::matrix_shape(c, r, ty, count)? {
         Shape::Scalars => write_scalars(c, r, k, a, out),
         Shape::Columns => write_vectors(c, r, k, a, out),
-        Shape::Refused(n) => Written::Refused(n),
-        Shape::Miscount(w, g) => Written::Miscount(w, g),
     }
 }

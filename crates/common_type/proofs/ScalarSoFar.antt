@@ -1,6 +1,6 @@
 -- A scalar so far, which literals meet by their kinds.
 use mathlib.Core.Path.{◌≡◌, refl, sym, ap, ◌∙◌, subst}
-use mathlib.Core.Option.{Option, none, some}
+use mathlib.Core.Option.{Option as Maybe, none, some}
 use mathlib.Core.List.{List, ◌∷◌}
 use mathlib.Core.Bool.{Bool, true, false}
 use Prim.Native.Nat.{ℕ, ◌+◌, ◌≤◌}
@@ -20,15 +20,13 @@ use Rattle.ty.proofs.Places.{same_type, put_stands}
 use Rattle.record.specs.Bytes.{Put}
 use Rattle.record.proofs.Puts.{put_three}
 use Rattle.shape.specs.Kinds.{meet_kind, KindsMeet}
-use Rattle.shape.specs.declared.Found.{Found}
-use Rattle.shape.specs.declared.Found.TheVariants.{Kind as Is, Nothing}
 use Rattle.shape.proofs.KindsFound.{found_kind, found_none, kinds_meet}
 use Rattle.args.specs.Row.{Row}
 use Rattle.args.proofs.LiteralArgs.{LiteralIs, literal_type, literal_end}
 use Rattle.common_type.specs.Brought.{part_of, part_type, part_types, PartIs}
-use Rattle.common_type.specs.CommonTypes.{Commons, Goes}
-use Rattle.common_type.specs.declared.Common.{Common}
 use Rattle.common_type.proofs.SoFar.{SoFar, so_at, so_none}
+use Rattle.std.specs.declared.option.Option.{Option}
+use Rattle.std.specs.declared.option.Option.TheVariants.{None, Some}
 
 -- a scalar brings itself
 scalar_part : (flat : Bool) (k : Kind) → part_type flat (Ts k) ≡ Ts k
@@ -61,7 +59,7 @@ scalar_set {ty} a b {n} w e =
     }
 
 -- the type so far is a scalar
-pub record ScalarSoFar (flat : Bool) (ty : List ℕ) (o : Option Ty) (l : List Val) : Type 0 where
+pub record ScalarSoFar (flat : Bool) (ty : List ℕ) (o : Maybe Ty) (l : List Val) : Type 0 where
   pub so : SoFar (part_types flat) 3 ty o l
   pub kind : Kind
   pub is : so.type ≡ Ts kind
@@ -76,7 +74,7 @@ kind_all flat {k = k} w l t x v = record {
 }
 
 -- a literal is the next
-module _ {s : List ℕ} {i : ℕ} {v : Val} {l : List Val} (y : LiteralIs s i v) {flat : Bool} {ty : List ℕ} {o : Option Ty}
+module _ {s : List ℕ} {i : ℕ} {v : Val} {l : List Val} (y : LiteralIs s i v) {flat : Bool} {ty : List ℕ} {o : Maybe Ty}
     (g : ScalarSoFar flat ty o (v ∷ l)) where
   scalar : Stands 15 ty 0 (Ts g.kind) 3
   scalar = subst (λ (t : Ty). Stands 15 ty 0 t 3) g.is g.so.stands
@@ -86,14 +84,14 @@ module _ {s : List ℕ} {i : ℕ} {v : Val} {l : List Val} (y : LiteralIs s i v)
   kind_byte = at_of ty _ 0 scalar.here 2
 
   -- the kind so far and the literal's meet as r says
-  module _ (r : Found) (f : KindsMeet (get_or ty 2 0) (get_or s (i + 2) 0) r) where
+  module _ (r : Option ℕ) (f : KindsMeet (get_or ty 2 0) (get_or s (i + 2) 0) r) where
     brings : part_types flat (v ∷ l) ≡ Ts y.kind ∷ part_types flat l
     brings = ap (λ (t : Ty). t ∷ part_types flat l) (ap (part_type flat) (literal_type y) ∙ scalar_part flat y.kind)
 
-    met : {m : Option Kind} → meet_kind g.kind y.kind ≡ m → meet (some g.so.type) (Ts y.kind) ≡ map_some Ts m
+    met : {m : Maybe Kind} → meet_kind g.kind y.kind ≡ m → meet (some g.so.type) (Ts y.kind) ≡ map_some Ts m
     met e = ap (λ (t : Ty). meet (some t) (Ts y.kind)) g.is ∙ (kinds_meet g.kind y.kind ∙ ap (map_some Ts) e)
 
-    pub kind_on : {n : ℕ} → r ≡ Is n → ScalarSoFar flat (set ty 2 n) o l
+    pub kind_on : {n : ℕ} → r ≡ Some n → ScalarSoFar flat (set ty 2 n) o l
     unfolding so_at map_some
     kind_on h =
         let z = found_kind (meet_kind g.kind y.kind) (sym h ∙ f g.kind y.kind kind_byte y.no) in
@@ -108,16 +106,10 @@ module _ {s : List ℕ} {i : ℕ} {v : Val} {l : List Val} (y : LiteralIs s i v)
           is = refl;
         }
 
-    pub kind_never : r ≡ Nothing → o ≡ none
+    pub kind_never : r ≡ None → o ≡ none
     unfolding map_some
     kind_never h = so_none g.so brings (met (found_none (meet_kind g.kind y.kind)
         (sym h ∙ f g.kind y.kind kind_byte y.no)))
-
--- from the first argument that is no literal on
-pub kind_rest : {s : List ℕ} {i : ℕ} {flat : Bool} {ty : List ℕ} {o : Option Ty} → Left (Row s) i (ScalarSoFar flat ty o)
-    → (r : Common) (ty' : List ℕ) → Goes flat s i ty 3 r ty' → Commons o r ty'
-kind_rest g r ty' f = let x = g.so.so in subst (λ (u : Option Ty). Commons u r ty') x.same
-    (f g.items x.type g.row x.stands)
 
 -- ---- the first argument
 

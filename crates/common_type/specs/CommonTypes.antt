@@ -1,6 +1,6 @@
 -- The common type of a list: "one of its own types to which all others convert; none exists otherwise".
 use Rattle.std.specs.Prelude.{◌≡◌, List, Bool, ℕ, ◌≤◌, length}
-use Rattle.std.proofs.Math.Option.{Option, none, some}
+use Rattle.std.proofs.Math.Option.{Option as Maybe, none, some}
 use Rattle.meaning.specs.Kinds.{Kind}
 use Rattle.meaning.specs.Trees.{Ty, Ts, Val}
 use Rattle.meaning.specs.Convert.{meet, common_from}
@@ -8,18 +8,18 @@ use Rattle.ty.specs.Stands.{Stands, Ends, Whole, OneType}
 use Rattle.shape.specs.TypeRows.{TypeRow, SomeTypeRow}
 use Rattle.args.specs.Row.{Row, SomeRow}
 use Rattle.common_type.specs.Brought.{part_types}
-use Rattle.common_type.specs.declared.Common.{Common}
-use Rattle.common_type.specs.declared.Common.TheVariants.{Of, Never}
+use Rattle.std.specs.declared.option.Option.{Option}
+use Rattle.std.specs.declared.option.Option.TheVariants.{None, Some}
 
 -- the record of the common type o stands at the front of ty, up to q
-pub record CommonAt (o : Option Ty) (q : ℕ) (ty : List ℕ) : Type 0 where
+pub record CommonAt (o : Maybe Ty) (q : ℕ) (ty : List ℕ) : Type 0 where
   pub type : Ty
   pub is : o ≡ some type
   pub stands : Stands 15 ty 0 type q
 
-abbrev pub Commons : Option Ty → Common → List ℕ → Type 0
-Commons o (Of q) ty = CommonAt o q ty
-Commons o Never ty = o ≡ none
+abbrev pub Commons : Maybe Ty → Option ℕ → List ℕ → Type 0
+Commons o (Some q) ty = CommonAt o q ty
+Commons o None ty = o ≡ none
 
 -- the type so far stands at the front of ty, up to q; `next` is another one, for which ty has room
 pub record Meeting (ty : List ℕ) (q : ℕ) (next : List ℕ) : Type 0 where
@@ -27,7 +27,7 @@ pub record Meeting (ty : List ℕ) (q : ℕ) (next : List ℕ) : Type 0 where
   pub another : OneType next
   pub room : length next ≤ length ty
 
-abbrev pub Meets : List ℕ → ℕ → List ℕ → Common → List ℕ → Type 0
+abbrev pub Meets : List ℕ → ℕ → List ℕ → Option ℕ → List ℕ → Type 0
 Meets ty q next r ty' = (t u : Ty) → Stands 15 ty 0 t q → Whole next u → Commons (meet (some t) u) r ty'
 
 -- of the type so far and the arguments from i on
@@ -36,7 +36,7 @@ pub record Going (args : List ℕ) (i : ℕ) (ty : List ℕ) (q : ℕ) : Type 0 
   pub so_far : Ends 15 ty 0 q
   pub room : length ty ≡ 4096
 
-abbrev pub Goes : Bool → List ℕ → ℕ → List ℕ → ℕ → Common → List ℕ → Type 0
+abbrev pub Goes : Bool → List ℕ → ℕ → List ℕ → ℕ → Option ℕ → List ℕ → Type 0
 Goes flat args i ty q r ty' = (l : List Val) (t : Ty) → Row args i l → Stands 15 ty 0 t q
     → Commons (common_from (some t) (part_types flat l)) r ty'
 
@@ -53,5 +53,5 @@ pub record GoingTypes (types : List ℕ) (i : ℕ) (ty : List ℕ) (q : ℕ) : T
   pub so_far : Ends 15 ty 0 q
   pub room : length ty ≡ 4096
 
-abbrev pub GoesTypes : List ℕ → ℕ → List ℕ → ℕ → Common → List ℕ → Type 0
+abbrev pub GoesTypes : List ℕ → ℕ → List ℕ → ℕ → Option ℕ → List ℕ → Type 0
 GoesTypes types i ty q r ty' = (l : List Ty) (t : Ty) → TypeRow types i l → Stands 15 ty 0 t q → Commons (common_from (some t) l) r ty'

@@ -11,15 +11,7 @@ ghost use Rattle.common_type.specs.Brought.{brought, PartAt, Parts};
 ghost use Rattle.common_type.specs.CommonTypes.{Commons, Meeting, Meets, Going, Goes, GoingScalar, GoingTypes, GoesTypes};
 
 use args::Step;
-use shape::Found;
 use ty::Limit;
-
-// The common type, whose record was written and ends there; or there is none.
-#[derive(Clone, Copy)]
-pub enum Common {
-    Of(usize),
-    Never,
-}
 
 // Where an argument ends, and where the record of the type that it brings begins and ends.
 #[derive(Clone, Copy)]
@@ -33,17 +25,17 @@ struct Part {
 
 // The type so far, at the front of `ty` up to q, and the next one: the next if the first converts to it, else the first
 // if the next converts to it.
-fn meet(ty: &mut [u8], q: usize, next: &[u8]) -> Common
+fn meet(ty: &mut [u8], q: usize, next: &[u8]) -> Option<usize>
     requires { Meeting ty.old q next.now }
     ensures { Meets ty.old q next.now result ty.new }
 {
     if rank::type_converts(&ty[..q], next) {
-        return Common::Of(record::copy(next, 0, next.len(), ty, 0));
+        return Some(record::copy(next, 0, next.len(), ty, 0));
     }
     if rank::type_converts(next, &ty[..q]) {
-        return Common::Of(q);
+        return Some(q);
     }
-    Common::Never
+    None
 }
 
 // Where in a type's record that of the type it brings begins: a vector's kind stands after its mark and its length.
@@ -90,7 +82,7 @@ fn first_other(args: &[u8], flat: bool, ty: &mut [u8]) -> Step
 }
 
 // The common type of the one so far and those that the arguments from i on bring, pair by pair.
-fn common_from(args: &[u8], i: usize, flat: bool, ty: &mut [u8], q: usize) -> Common
+fn common_from(args: &[u8], i: usize, flat: bool, ty: &mut [u8], q: usize) -> Option<usize>
     requires { Going args.now i ty.old q }
     ensures { Goes flat args.now i ty.old q result ty.new }
 {
@@ -101,17 +93,10 @@ fn common_from(args: &[u8], i: usize, flat: bool, ty: &mut [u8], q: usize) -> Co
         let part = next_part(args, at, flat, &mut next);
         let from = part.from;
         let to = part.to;
-        match meet(ty, end, &next[from..to]) {
-            Common::Of(n) => {
-                end = n;
-            }
-            Common::Never => {
-                return Common::Never;
-            }
-        }
+        end = meet(ty, end, &next[from..to])?;
         at = part.end;
     }
-    Common::Of(end)
+    Some(end)
 }
 
 // ---- the same for literals, by their kinds
@@ -135,7 +120,7 @@ fn first_type(args: &[u8], flat: bool, ty: &mut [u8]) -> Step
 
 // The common type of a scalar so far and those that the arguments from i on bring. A literal's type needs no record of
 // its own; from the first argument that is no literal on, each type is derived.
-fn common_literals(args: &[u8], i: usize, flat: bool, ty: &mut [u8]) -> Common
+fn common_literals(args: &[u8], i: usize, flat: bool, ty: &mut [u8]) -> Option<usize>
     requires { GoingScalar args.now i ty.old }
     ensures { Goes flat args.now i ty.old 3 result ty.new }
 {
@@ -146,21 +131,14 @@ fn common_literals(args: &[u8], i: usize, flat: bool, ty: &mut [u8]) -> Common
         }
         let k = args[at + 2];
         let first = ty[2];
-        match shape::meet_kinds(first, k) {
-            Found::Kind(n) => {
-                ty[2] = n;
-            }
-            Found::Nothing => {
-                return Common::Never;
-            }
-        }
+        ty[2] = shape::meet_kinds(first, k)?;
         at = at + record::literal_len(k);
     }
-    Common::Of(3)
+    Some(3)
 }
 
 // The common type of the one so far and those that the arguments from i on bring.
-fn common_rest(args: &[u8], i: usize, flat: bool, ty: &mut [u8], q: usize) -> Common
+fn common_rest(args: &[u8], i: usize, flat: bool, ty: &mut [u8], q: usize) -> Option<usize>
     requires { Going args.now i ty.old q }
     ensures { Goes flat args.now i ty.old q result ty.new }
 {
@@ -172,13 +150,13 @@ fn common_rest(args: &[u8], i: usize, flat: bool, ty: &mut [u8], q: usize) -> Co
 
 // The common type of the values that the arguments bring, with `flat` the parts of vectors: "one of its own types to
 // which all others convert; none exists otherwise", so there is none of no argument.
-pub fn common_type_of(args: &[u8], flat: bool, ty: &mut [u8]) -> Common
+pub fn common_type_of(args: &[u8], flat: bool, ty: &mut [u8]) -> Option<usize>
     requires some_row { SomeRow args.now 0 }
     requires ty_len { length ty.old ≡ 4096 }
     ensures { (l : List Val) → Row args.now 0 l → Commons (common (map type_of (brought flat l))) result ty.new }
 {
     if args.len() == 0 {
-        return Common::Never;
+        return None;
     }
     let first = first_type(args, flat, ty);
     common_rest(args, first.end, flat, ty, first.ty)
@@ -187,7 +165,7 @@ pub fn common_type_of(args: &[u8], flat: bool, ty: &mut [u8]) -> Common
 // ---- the same for types in a row
 
 // The common type of the one so far and those from i on, pair by pair.
-fn common_types_from(types: &[u8], i: usize, ty: &mut [u8], q: usize) -> Common
+fn common_types_from(types: &[u8], i: usize, ty: &mut [u8], q: usize) -> Option<usize>
     requires { GoingTypes types.now i ty.old q }
     ensures { GoesTypes types.now i ty.old q result ty.new }
 {
@@ -195,27 +173,20 @@ fn common_types_from(types: &[u8], i: usize, ty: &mut [u8], q: usize) -> Common
     let mut end = q;
     while at < types.len() {
         let e = shape::end_of_type(types, at, Limit::DEPTH);
-        match meet(ty, end, &types[at..e]) {
-            Common::Of(n) => {
-                end = n;
-            }
-            Common::Never => {
-                return Common::Never;
-            }
-        }
+        end = meet(ty, end, &types[at..e])?;
         at = e;
     }
-    Common::Of(end)
+    Some(end)
 }
 
 // The common type of the types whose records stand in a row.
-pub fn common_type(types: &[u8], ty: &mut [u8]) -> Common
+pub fn common_type(types: &[u8], ty: &mut [u8]) -> Option<usize>
     requires some_type_row { SomeTypeRow types.now 0 }
     requires ty_len { length ty.old ≡ 4096 }
     ensures { (l : List Ty) → TypeRow types.now 0 l → Commons (common l) result ty.new }
 {
     if types.len() == 0 {
-        return Common::Never;
+        return None;
     }
     let e = shape::end_of_type(types, 0, Limit::DEPTH);
     let q = record::copy(types, 0, e, ty, 0);

@@ -1,6 +1,6 @@
 -- One item where it stands.
 use mathlib.Core.Path.{◌≡◌, refl, sym, ap, ap₂, ◌∙◌, subst}
-use mathlib.Core.Option.{Option, none, some}
+use mathlib.Core.Option.{Option as Maybe, none, some}
 use mathlib.Core.List.{List, [], ◌∷◌, ◌++◌}
 use mathlib.Core.Bool.{Bool, true}
 use Prim.Native.Nat.{ℕ, ◌+◌, ◌-◌, ◌≤◌}
@@ -18,8 +18,6 @@ use Rattle.laws.proofs.BackVal.{lit_fits_lem}
 use Rattle.laws.proofs.Length.{le_len, lit_len_lem}
 use Rattle.laws.proofs.Sound.{some_inj, no_some}
 use Rattle.kind.specs.Ends.{of_kind}
-use Rattle.literal.specs.declared.Converted.{Converted}
-use Rattle.literal.specs.declared.Converted.TheVariants.{To, Unfit}
 use Rattle.literal.specs.LiteralAnswers.{converted_of, conv_between}
 use Rattle.record.specs.Literals.{Sized, most_lit, width_of, literal_of}
 use Rattle.record.proofs.Places.{at_of, past}
@@ -27,6 +25,8 @@ use Rattle.record.specs.Bytes.{Put, number_at}
 use Rattle.record.proofs.Numbers.{number_of}
 use Rattle.conv.specs.Items.{Item, Literal, Vector, Matrix, Array, item_bytes, good_item, conv_item, ItemAt, literal_as, literal_to}
 use Rattle.record.proofs.Literals.{width_of_lem, literal_bytes}
+use Rattle.std.specs.declared.option.Option.{Option}
+use Rattle.std.specs.declared.option.Option.TheVariants.{None, Some}
 
 -- ---- one item
 
@@ -164,32 +164,32 @@ module _ {s : List ℕ} {i : ℕ} {a : Item} (w : ItemAt s i a) where
       unfolding map_some some?
       literal_fits e = e ∙ (go (literal_as k s i) ∙ ap some? (sym literal_goes))
         where
-          go : (o : Option ℕ) → some? o ≡ some? (map_some (Literal j) o)
+          go : (o : Maybe ℕ) → some? o ≡ some? (map_some (Literal j) o)
           go none = refl
           go (some q) = refl
 
-      module _ {r : Converted} (c : r ≡ literal_to k s i) {b : Item} (g : conv_item j a ≡ some b) where
-        pub literal_into : {p : ℕ} → r ≡ To p → b ≡ Literal j p
+      module _ {r : Option ℕ} (c : r ≡ literal_to k s i) {b : Item} (g : conv_item j a ≡ some b) where
+        pub literal_into : {p : ℕ} → r ≡ Some p → b ≡ Literal j p
         unfolding converted_of map_some
         literal_into {p} e = go (literal_as k s i) (sym e ∙ c) (sym literal_goes ∙ g)
           where
-            go : (o : Option ℕ) → To p ≡ converted_of o → map_some (Literal j) o ≡ some b → b ≡ Literal j p
+            go : (o : Maybe ℕ) → Some p ≡ converted_of o → map_some (Literal j) o ≡ some b → b ≡ Literal j p
             go none h u = absurd (let z : ◌≡◌ {A = ℕ} 0 1 = cc in omega arith)
             go (some q) h u = cc
 
-        pub literal_never : r ≡ Unfit → ⊥
+        pub literal_never : r ≡ None → ⊥
         unfolding converted_of map_some
         literal_never e = go (literal_as k s i) (sym e ∙ c) (sym literal_goes ∙ g)
           where
-            go : (o : Option ℕ) → Unfit ≡ converted_of o → map_some (Literal j) o ≡ some b → ⊥
+            go : (o : Maybe ℕ) → None ≡ converted_of o → map_some (Literal j) o ≡ some b → ⊥
             go none h u = no_some u
             go (some q) h u = absurd (let z : ◌≡◌ {A = ℕ} 0 1 = cc in omega arith)
 
-        pub literal_room : {p : ℕ} (to : ℕ) {most : ℕ} → r ≡ To p → to + length (item_bytes b) ≤ most → to + (3 + width_of k) ≤ most
+        pub literal_room : {p : ℕ} (to : ℕ) {most : ℕ} → r ≡ Some p → to + length (item_bytes b) ≤ most → to + (3 + width_of k) ≤ most
         unfolding item_bytes lit_len
         literal_room {p} to e h = rw (n, width_of_lem j) (omega (arith, lit_len_lem j p, ap (λ (x : Item). length (item_bytes x)) (literal_into e)))
 
-        pub literal_put : {out out' : List ℕ} {to t p : ℕ} → r ≡ To p → Put out to (literal_of k p) t out' → Put out to (item_bytes b) t out'
+        pub literal_put : {out out' : List ℕ} {to t p : ℕ} → r ≡ Some p → Put out to (literal_of k p) t out' → Put out to (item_bytes b) t out'
         unfolding item_bytes
         literal_put {out} {out'} {to} {t} {p} e y =
             subst (λ (l : List ℕ). Put out to l t out') (ap (λ (z : ℕ). literal_of z p) n

@@ -1,7 +1,7 @@
 -- A value whose type converts to a type: it is scanned where the type has a kind at the bottom, and stays as it is
 -- where a struct is in the way.
 use mathlib.Core.Path.{◌≡◌, refl, sym, ap, ◌∙◌, subst}
-use mathlib.Core.Option.{Option, some}
+use mathlib.Core.Option.{Option as Maybe, some}
 use mathlib.Core.List.{List}
 use mathlib.Core.Bool.{true}
 use Prim.Native.Nat.{ℕ, ◌-◌}
@@ -20,12 +20,12 @@ use Rattle.laws.proofs.Back.{and_l, and_r}
 use Rattle.laws.proofs.Same.{both}
 use Rattle.laws.proofs.Sound.{some_inj}
 use Rattle.ty.specs.Heads.{leaf_of, LeafAt}
-use Rattle.ty.specs.declared.Leaf.{Leaf}
-use Rattle.ty.specs.declared.Leaf.TheVariants.{Kind as Bottom, Struct as Blocked}
 use Rattle.record.specs.Bytes.{Put}
 use Rattle.conv.specs.Values.{plain, plains, ValueTo}
 use Rattle.ty.proofs.Bottom.{KindIs, kind_is, struct_is}
 use Rattle.conv.proofs.Values.{Scan, val_scan}
+use Rattle.std.specs.declared.option.Option.{Option}
+use Rattle.std.specs.declared.option.Option.TheVariants.{None, Some}
 
 -- ---- a value whose type has a kind at the bottom holds no struct
 
@@ -56,7 +56,7 @@ module _ {d : ℕ} {ty : List ℕ} {at : ℕ} {s : List ℕ} {from e : ℕ} {t :
   unfolding conv_val
   by_leaf = rw (true_of (converts (type_of v) t) x.converts)
 
-  bottom : {r : Leaf} → LeafAt d ty at r → r ≡ leaf_of (leaf t)
+  bottom : {r : Option ℕ} → LeafAt d ty at r → r ≡ leaf_of (leaf t)
   bottom f = f x.part x.end x.stands ∙ ap leaf_of x.bottom
 
   -- ---- a kind at the bottom
@@ -66,25 +66,25 @@ module _ {d : ℕ} {ty : List ℕ} {at : ℕ} {s : List ℕ} {from e : ℕ} {t :
     pub no : k ≡ kind_no kind
     pub scan : Scan kind s from e (map_some val_bytes (conv_val t v))
 
-  pub kind_scan : {k : ℕ} {r : Leaf} → LeafAt d ty at r → r ≡ Bottom k → KindScan k
+  pub kind_scan : {k : ℕ} {r : Option ℕ} → LeafAt d ty at r → r ≡ Some k → KindScan k
   unfolding conv_leaf
   kind_scan {k} f q =
       let y : KindIs k (leaf t) = kind_is k (leaf t) (sym q ∙ bottom f) in
       let h : T (plain v) = leaf_plain v x.has.shaped (leaf_from (how (type_of v) t x.converts) y.is).1 in
-      let c : conv_val t v ≡ conv_leaf (some y.kind) v = by_leaf ∙ ap (λ (o : Option Kind). conv_leaf o v) y.is in
+      let c : conv_val t v ≡ conv_leaf (some y.kind) v = by_leaf ∙ ap (λ (o : Maybe Kind). conv_leaf o v) y.is in
       record {
         kind = y.kind;
         no = y.no;
-        scan = subst (λ (o : Option Val). Scan y.kind s from e (map_some val_bytes o)) (sym c)
+        scan = subst (λ (o : Maybe Val). Scan y.kind s from e (map_some val_bytes o)) (sym c)
             (val_scan y.kind v x.has h);
       }
 
   -- ---- a struct in the way
 
-  module _ {r : Leaf} (f : LeafAt d ty at r) (q : r ≡ Blocked) where
+  module _ {r : Option ℕ} (f : LeafAt d ty at r) (q : r ≡ None) where
     kept : conv_val t v ≡ some v
     unfolding conv_leaf
-    kept = by_leaf ∙ ap (λ (o : Option Kind). conv_leaf o v) (struct_is (leaf t) (sym q ∙ bottom f))
+    kept = by_leaf ∙ ap (λ (o : Maybe Kind). conv_leaf o v) (struct_is (leaf t) (sym q ∙ bottom f))
 
     pub struct_fits : true ≡ some? (conv_val t v)
     unfolding some?

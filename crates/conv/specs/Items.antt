@@ -1,16 +1,16 @@
 -- A value's record as a list of items: literals, and marks with their counts. A value converts to a kind item by item,
 -- whatever the items are parts of.
 use Rattle.std.specs.Prelude.{◌≡◌, List, [], ◌∷◌, ◌++◌, map, Bool, true, ℕ, ◌+◌, ◌≤◌, T, length, get_or, drop}
-use Rattle.std.proofs.Math.Option.{Option, some}
+use Rattle.std.proofs.Math.Option.{Option as Maybe, some}
 use Rattle.meaning.specs.Kinds.{Kind, kind_no}
 use Rattle.meaning.specs.Scalars.{conv, some?}
 use Rattle.meaning.specs.Trees.{Val, Vs, Vv, Vm, Va, Vu, Vals, ⟨⟩, ◌▹◌, count_vals}
 use Rattle.meaning.specs.Records.{‘V’, ‘v’, ‘m’, ‘a’, le, lit_bytes, joined, columns, every, good_lit}
 use Rattle.meaning.specs.Answers.{all_some, map_some}
-use Rattle.literal.specs.declared.Converted.{Converted}
 use Rattle.literal.specs.LiteralAnswers.{converted_of, conv_between}
 use Rattle.record.specs.Bytes.{Put, number_at}
 use Rattle.record.specs.Literals.{width_of}
+use Rattle.std.specs.declared.option.Option.{Option}
 
 -- `Vs` kind and payload; `Vv` n; `Vm` c r; `Va` count
 pub data Item : Type 0 where
@@ -35,13 +35,13 @@ good_item (Matrix c r) = true
 good_item (Array n) = true
 
 -- a literal converts to the kind k; a mark stays
-unfoldable pub conv_item : Kind → Item → Option Item
+unfoldable pub conv_item : Kind → Item → Maybe Item
 conv_item k (Literal j p) = map_some (Literal k) (conv k j p)
 conv_item k (Vector n) = some (Vector n)
 conv_item k (Matrix c r) = some (Matrix c r)
 conv_item k (Array n) = some (Array n)
 
-abbrev pub conv_items : Kind → List Item → Option (List Item)
+abbrev pub conv_items : Kind → List Item → Maybe (List Item)
 conv_items k l = all_some (conv_item k) l
 
 -- ---- the items of values; a struct has none, and is not scanned
@@ -88,10 +88,10 @@ pub record SomeItems (s : List ℕ) (from e : ℕ) : Type 0 where
 -- ---- one item
 
 -- the literal whose record stands at i, converted to the kind whose number k is; by the numbers in the record
-abbrev pub literal_as : ℕ → List ℕ → ℕ → Option ℕ
+abbrev pub literal_as : ℕ → List ℕ → ℕ → Maybe ℕ
 literal_as k s i = let j = get_or s (i + 2) 0 in conv_between k j (number_at s (i + 3) (width_of j))
 
-abbrev pub literal_to : ℕ → List ℕ → ℕ → Converted
+abbrev pub literal_to : ℕ → List ℕ → ℕ → Option ℕ
 literal_to k s i = converted_of (literal_as k s i)
 
 abbrev pub EndIs : List ℕ → ℕ → ℕ → Type 0

@@ -9,8 +9,7 @@ ghost use Rattle.conv.specs.Items.{Convertible, Converts};
 ghost use Rattle.conv.specs.Values.{SomeValueTo, ValueFits, ValueRoom, ValuePut};
 
 use kind::Scalar;
-use literal::Converted;
-use ty::{Leaf, Limit};
+use ty::Limit;
 
 // ---- one item of a value's record: a literal, or a mark with its counts
 
@@ -30,7 +29,7 @@ pub fn item_end(src: &[u8], i: usize) -> usize
 }
 
 // The literal whose record begins at i, converted to the kind k.
-fn literal_at(src: &[u8], i: usize, k: u8) -> Converted
+fn literal_at(src: &[u8], i: usize, k: u8) -> Option<u64>
     requires { i + (3 + width_of (get_or src.now (i + 2) 0)) ≤ length src.now }
     ensures { result ≡ literal_to k src.now i }
 {
@@ -65,12 +64,12 @@ fn put_item(src: &[u8], i: usize, k: u8, out: &mut [u8], to: usize) -> usize
     let mark = src[i + 1];
     if mark != b's' {
         let end = item_end(src, i);
-        return record::copy(src, i, end, out, to);
+        return record::put_bytes(out, to, &src[i..end]);
     }
-    match literal_at(src, i, k) {
-        Converted::To(p) => record::put_literal(out, to, k, p),
-        Converted::Unfit => to,
-    }
+    let Some(p) = literal_at(src, i, k) else {
+        return to;
+    };
+    record::put_literal(out, to, k, p)
 }
 
 // ---- the items of a value's record, or of several in a row
@@ -113,10 +112,10 @@ pub fn value_fits(src: &[u8], from: usize, end: usize, target: &[u8], at: usize,
     requires { SomeValueTo depth target.now at src.now from end }
     ensures { ValueFits depth target.now at src.now from end result }
 {
-    match ty::leaf_at(target, at, depth) {
-        Leaf::Kind(k) => fits(src, from, end, k),
-        Leaf::Struct => true,
-    }
+    let Some(k) = ty::leaf_at(target, at, depth) else {
+        return true;
+    };
+    fits(src, from, end, k)
 }
 
 // That value, converted.
@@ -134,7 +133,7 @@ pub fn write_converted(
     ensures { ValuePut depth target.now at src.now from end out.old to result out.new }
 {
     match ty::leaf_at(target, at, depth) {
-        Leaf::Kind(k) => convert_items(src, from, end, k, out, to),
-        Leaf::Struct => record::copy(src, from, end, out, to),
+        Some(k) => convert_items(src, from, end, k, out, to),
+        None => record::put_bytes(out, to, &src[from..end]),
     }
 }

@@ -1,6 +1,6 @@
 -- All arguments to one type: they are scanned where the type has a kind at the bottom, and stay as they are where a struct is in the way.
 use mathlib.Core.Path.{◌≡◌, refl, sym, ap, ap₂, ◌∙◌, subst}
-use mathlib.Core.Option.{Option, none, some}
+use mathlib.Core.Option.{Option as Maybe, none, some}
 use mathlib.Core.List.{List, [], ◌∷◌, ◌++◌, map}
 use mathlib.Core.Bool.{Bool, true, false, ◌&&◌}
 use Prim.Native.Nat.{ℕ, ◌-◌}
@@ -21,8 +21,6 @@ use Rattle.laws.proofs.Same.{both}
 use Rattle.laws.proofs.Sound.{All, some_inj, no_some}
 use Rattle.ty.specs.Stands.{Stands}
 use Rattle.ty.specs.Heads.{LeafAt}
-use Rattle.ty.specs.declared.Leaf.{Leaf}
-use Rattle.ty.specs.declared.Leaf.TheVariants.{Kind as Bottom, Struct as Blocked}
 use Rattle.ty.proofs.Places.{same_type}
 use Rattle.args.specs.Counts.{ValueArg}
 use Rattle.args.proofs.Rest.{value_tells}
@@ -35,6 +33,8 @@ use Rattle.conv.proofs.Values.{Scan, list_scan}
 use Rattle.args.specs.Row.{Row}
 use Rattle.args.proofs.ArgumentRows.{some_val, row_bytes, each_shaped}
 use Rattle.convert_all.specs.Lists.{all_to, AskedFit}
+use Rattle.std.specs.declared.option.Option.{Option}
+use Rattle.std.specs.declared.option.Option.TheVariants.{None, Some}
 
 -- ---- what stands in a row is one list
 
@@ -89,7 +89,7 @@ module _ (t : Ty) where
   all_lits {k} e [] c = refl
   all_lits {k} e (v ∷ l) c =
       let h = first_to v l c in
-      let i : conv_val t v ≡ conv_lits k v = by_leaf t v h.0 ∙ ap (λ (o : Option Kind). conv_leaf o v) e in
+      let i : conv_val t v ≡ conv_lits k v = by_leaf t v h.0 ∙ ap (λ (o : Maybe Kind). conv_leaf o v) e in
       ap₂ push i (all_lits e l h.1)
 
   -- a struct in the way: nothing changes
@@ -98,7 +98,7 @@ module _ (t : Ty) where
   all_kept e [] c = refl
   all_kept e (v ∷ l) c =
       let h = first_to v l c in
-      let i : conv_val t v ≡ some v = by_leaf t v h.0 ∙ ap (λ (o : Option Kind). conv_leaf o v) e in
+      let i : conv_val t v ≡ some v = by_leaf t v h.0 ∙ ap (λ (o : Maybe Kind). conv_leaf o v) e in
       ap₂ push i (all_kept e l h.1)
 
   -- and there is no struct where there is a kind at the bottom
@@ -120,19 +120,19 @@ module _ {d : ℕ} {ty : List ℕ} {at : ℕ} {s : List ℕ} {from : ℕ} {t : T
     pub no : k ≡ kind_no kind
     pub scan : Scan kind s from (length s) (map_some (joined val_bytes) (all_some (conv_val t) l))
 
-  pub row_scan : {k : ℕ} {r : Leaf} → LeafAt d ty at r → r ≡ Bottom k → RowScan k
+  pub row_scan : {k : ℕ} {r : Option ℕ} → LeafAt d ty at r → r ≡ Some k → RowScan k
   row_scan {k} f q =
       let y : KindIs k (leaf t) = kind_is k (leaf t) (sym q ∙ f t e w) in
       let g : T (shaped_vals (vals_of l)) = each_shaped l x.each in
       record {
         kind = y.kind;
         no = y.no;
-        scan = subst (λ (o : Option (List Val)). Scan y.kind s from (length s) (map_some (joined val_bytes) o))
+        scan = subst (λ (o : Maybe (List Val)). Scan y.kind s from (length s) (map_some (joined val_bytes) o))
             (sym (all_lits t y.is l c)) (list_scan y.kind l (row_bytes x) g (all_plain t y.is l g c));
       }
 
   -- a struct in the way
-  module _ {r : Leaf} (f : LeafAt d ty at r) (q : r ≡ Blocked) where
+  module _ {r : Option ℕ} (f : LeafAt d ty at r) (q : r ≡ None) where
     kept : all_some (conv_val t) l ≡ some l
     kept = all_kept t (struct_is (leaf t) (sym q ∙ f t e w)) l c
 

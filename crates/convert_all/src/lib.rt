@@ -8,7 +8,7 @@ ghost use Rattle.args.specs.Row.{SomeRow, SomeArg};
 ghost use Rattle.convert_all.specs.Lists.{HeadConverts, ArgConverts, Asked, AskedFit, TypesConvert, LiteralsFit, AllConvert};
 ghost use Rattle.convert_all.specs.Lists.{AllRoom, AllPut};
 
-use ty::{Head, Leaf, Limit, TypeEnd};
+use ty::{Head, Limit};
 
 // ---- one argument's type to a type
 
@@ -16,52 +16,39 @@ use ty::{Head, Leaf, Limit, TypeEnd};
 fn scalar_converts(j: u8, to: Head) -> bool
     ensures { HeadConverts (Scalar j) to result }
 {
-    match to {
-        Head::Scalar(k) => rank::kind_converts(j, k),
-        Head::Vector(_, _) => false,
-        Head::Matrix(_, _, _) => false,
-        Head::Array(_) => false,
-        Head::Struct(_, _) => false,
-    }
+    let Head::Scalar(k) = to else {
+        return false;
+    };
+    rank::kind_converts(j, k)
 }
 
 // The same of a vector: to one of equal length.
 fn vector_converts(n: u8, j: u8, to: Head) -> bool
     ensures { HeadConverts (Vector n j) to result }
 {
-    match to {
-        Head::Scalar(_) => false,
-        Head::Vector(m, k) => {
-            if m != n {
-                return false;
-            }
-            rank::kind_converts(j, k)
-        }
-        Head::Matrix(_, _, _) => false,
-        Head::Array(_) => false,
-        Head::Struct(_, _) => false,
+    let Head::Vector(m, k) = to else {
+        return false;
+    };
+    if m != n {
+        return false;
     }
+    rank::kind_converts(j, k)
 }
 
 // The same of a matrix: to one of equal shape.
 fn matrix_converts(c: u8, r: u8, j: u8, to: Head) -> bool
     ensures { HeadConverts (Matrix c r j) to result }
 {
-    match to {
-        Head::Scalar(_) => false,
-        Head::Vector(_, _) => false,
-        Head::Matrix(a, b, k) => {
-            if a != c {
-                return false;
-            }
-            if b != r {
-                return false;
-            }
-            rank::kind_converts(j, k)
-        }
-        Head::Array(_) => false,
-        Head::Struct(_, _) => false,
+    let Head::Matrix(a, b, k) = to else {
+        return false;
+    };
+    if a != c {
+        return false;
     }
+    if b != r {
+        return false;
+    }
+    rank::kind_converts(j, k)
 }
 
 // Whether the type of the argument at i, whatever that is, converts to the type that `ty` is.
@@ -141,10 +128,10 @@ pub fn all_fit(args: &[u8], from: usize, ty: &[u8], at: usize, depth: u8) -> boo
     if ty[at + 1] == b's' {
         return literals_fit(args, from, ty[at + 2]);
     }
-    match ty::leaf_at(ty, at, depth) {
-        Leaf::Kind(k) => conv::fits(args, from, args.len(), k),
-        Leaf::Struct => true,
-    }
+    let Some(k) = ty::leaf_at(ty, at, depth) else {
+        return true;
+    };
+    conv::fits(args, from, args.len(), k)
 }
 
 // Whether each argument from `from` on converts to the type whose record stands at `at`: "a value converts exactly if
@@ -157,18 +144,16 @@ pub fn all_convert(args: &[u8], from: usize, ty: &[u8], at: usize, depth: u8) ->
     // taken anew: its two words are read one by one, not copied at once (docs/DECISIONS.md, 66)
     let a = &args[..];
     let t = &ty[..];
-    match ty::type_end(t, at, depth) {
-        TypeEnd::At(e) => {
-            if t[at + 1] == b's' {
-                return literals_fit(a, from, t[at + 2]);
-            }
-            if !others_convert(a, from, &t[at..e]) {
-                return false;
-            }
-            all_fit(a, from, t, at, depth)
-        }
-        TypeEnd::Bad => false,
+    let Some(e) = ty::type_end(t, at, depth) else {
+        return false;
+    };
+    if t[at + 1] == b's' {
+        return literals_fit(a, from, t[at + 2]);
     }
+    if !others_convert(a, from, &t[at..e]) {
+        return false;
+    }
+    all_fit(a, from, t, at, depth)
 }
 
 // The arguments from `from` on, converted to that type, one after another.
@@ -185,7 +170,7 @@ pub fn write_all(
     ensures { AllPut args.now from depth ty.now at out.old to result out.new }
 {
     match ty::leaf_at(ty, at, depth) {
-        Leaf::Kind(k) => conv::convert_items(args, from, args.len(), k, out, to),
-        Leaf::Struct => record::copy(args, from, args.len(), out, to),
+        Some(k) => conv::convert_items(args, from, args.len(), k, out, to),
+        None => record::put_bytes(out, to, &args[from..]),
     }
 }

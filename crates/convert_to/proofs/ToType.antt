@@ -19,7 +19,6 @@ use Rattle.laws.proofs.AgreeConv.{Conv, conv_val_lem, conv_not}
 use Rattle.laws.proofs.Back.{shaped_of}
 use Rattle.laws.proofs.Length.{val_len_lem}
 use Rattle.laws.proofs.Sound.{some_inj}
-use Rattle.ty.specs.Stands.{Standing}
 use Rattle.conv.specs.Values.{ValueTo, ValueRoom}
 use Rattle.shape.proofs.Downs.{some_of, none_of}
 use Rattle.convert_to.specs.Conversions.{Asked, Becomes, converted, convert_read}
@@ -30,9 +29,6 @@ use Rattle.convert_to.proofs.OneValue.{one_read}
 -- ---- a value that converts
 
 module _ {target args : List ℕ} {t : Ty} {v w : Val} (x : Becomes target args t v w) where
-  pub room_stands : Standing 15 target 0
-  room_stands = record { type = t; end = length target; stands = x.whole }
-
   pub room_to : ValueTo 15 target 0 args 0 (length args) t v
   room_to = record { part = t; end = length target; stands = x.whole; bottom = refl; has = one_has x.value; converts = x.converts }
 

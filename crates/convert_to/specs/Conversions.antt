@@ -9,8 +9,8 @@ use Rattle.meaning.specs.Convert.{converts, conv_val, conv_runtime}
 use Rattle.meaning.specs.Entries.{hand_val, only, conv_one}
 use Rattle.ty.specs.Stands.{Stands, Whole}
 use Rattle.error.specs.Told.{Told}
-use Rattle.error.specs.declared.Written.{Written}
 use Rattle.args.specs.OneValue.{OneValue}
+use Rattle.error.specs.Told.{Written}
 
 -- ---- to a type
 

@@ -10,37 +10,32 @@ ghost use Rattle.ty.specs.Targets.{RuntimeIs};
 ghost use Rattle.convert_to.specs.Conversions.{SomeAsked, Converts, SomeBecomes, Writes, SomeRuntime, ConvertsRuntime, TypeTold};
 ghost use Rattle.convert_to.specs.Conversions.{RuntimeTold};
 
-use args::Single;
-use error::{Refusal, Written};
-use ty::{Len, Limit, Target};
+use error::Refusal;
+use ty::{Limit, Target};
 
 // Writes a value that is known to convert, if there is room for it: "22 the accepted record is longer than the lent buffer".
-fn write_value(target: &[u8], args: &[u8], out: &mut [u8]) -> Written
+fn write_value(target: &[u8], args: &[u8], out: &mut [u8]) -> Result<usize, Refusal>
     requires { SomeBecomes target.now args.now }
     ensures { Writes target.now args.now out.old result out.new }
 {
-    match ty::value_len(target, 0, Limit::DEPTH) {
-        Len::Is(_, n) => {
-            if n > out.len() {
-                return Written::Refused(Refusal::NO_ROOM);
-            }
-            let end = conv::write_converted(args, 0, args.len(), target, 0, Limit::DEPTH, out, 0);
-            Written::Record(end)
-        }
-        Len::TooLong => Written::Refused(Refusal::NO_ROOM),
+    let (_, n) = ty::value_len(target, 0, Limit::DEPTH).ok_or(Refusal::NoRoom)?;
+    if n > out.len() {
+        return Err(Refusal::NoRoom);
     }
+    let end = conv::write_converted(args, 0, args.len(), target, 0, Limit::DEPTH, out, 0);
+    Ok(end)
 }
 
 // The one value, whose type's record `ty` is, to the type that the target is. Nothing is written before all is decided.
-fn convert_value(target: &[u8], args: &[u8], ty: &[u8], out: &mut [u8]) -> Written
+fn convert_value(target: &[u8], args: &[u8], ty: &[u8], out: &mut [u8]) -> Result<usize, Refusal>
     requires { SomeAsked target.now args.now ty.now }
     ensures { Converts target.now args.now ty.now out.old result out.new }
 {
     if !rank::type_converts(ty, target) {
-        return Written::Refused(Refusal::NO_CONVERSION);
+        return Err(Refusal::NoConversion);
     }
     if !conv::value_fits(args, 0, args.len(), target, 0, Limit::DEPTH) {
-        return Written::Refused(Refusal::NO_CONVERSION);
+        return Err(Refusal::NoConversion);
     }
     write_value(target, args, out)
 }
@@ -52,17 +47,17 @@ fn counted(ty: &[u8], target: &[u8], out: &mut [u8]) -> usize
     ensures { Put out.old 0 (take 4 ty.now ++ take (length target.now - 2)
         (drop 2 target.now)) result out.new }
 {
-    let p = record::copy(ty, 0, 4, out, 0);
-    record::copy(target, 2, target.len(), out, p)
+    let p = record::put_bytes(out, 0, &ty[..4]);
+    record::put_bytes(out, p, &target[2..])
 }
 
 // The one value to a runtime-sized array: "an array value also converts to `Tr` if its elements do; the result is a `Va`".
-fn convert_array(target: &[u8], args: &[u8], ty: &[u8], out: &mut [u8]) -> Written
+fn convert_array(target: &[u8], args: &[u8], ty: &[u8], out: &mut [u8]) -> Result<usize, Refusal>
     requires { SomeRuntime target.now args.now ty.now }
     ensures { ConvertsRuntime target.now args.now ty.now out.old result out.new }
 {
     if ty[1] != b'a' {
-        return Written::Refused(Refusal::NO_CONVERSION);
+        return Err(Refusal::NoConversion);
     }
     let mut whole = [0u8; Limit::TYPE_BYTES];
     let m = counted(ty, target, &mut whole);
@@ -70,41 +65,35 @@ fn convert_array(target: &[u8], args: &[u8], ty: &[u8], out: &mut [u8]) -> Writt
 }
 
 // To a type, whose record the target is.
-fn convert_to_type(target: &[u8], args: &[u8], out: &mut [u8]) -> Written
+fn convert_to_type(target: &[u8], args: &[u8], out: &mut [u8]) -> Result<usize, Refusal>
     requires { OneType target.now }
     ensures { TypeTold target.now args.now out.old result out.new }
 {
     let mut buf = [0u8; Limit::TYPE_BYTES];
-    match args::one_value(args, &mut buf) {
-        Single::Of(q) => convert_value(target, args, &buf[..q], out),
-        Single::Bad => Written::Refused(Refusal::BAD_ARGUMENT),
-    }
+    let q = args::one_value(args, &mut buf).ok_or(Refusal::BadArgument)?;
+    convert_value(target, args, &buf[..q], out)
 }
 
 // To a runtime-sized array.
-fn convert_to_runtime(target: &[u8], args: &[u8], out: &mut [u8]) -> Written
+fn convert_to_runtime(target: &[u8], args: &[u8], out: &mut [u8]) -> Result<usize, Refusal>
     requires { RuntimeIs target.now }
     ensures { RuntimeTold target.now args.now out.old result out.new }
 {
     let mut buf = [0u8; Limit::TYPE_BYTES];
-    match args::one_value(args, &mut buf) {
-        Single::Of(q) => convert_array(target, args, &buf[..q], out),
-        Single::Bad => Written::Refused(Refusal::BAD_ARGUMENT),
-    }
+    let q = args::one_value(args, &mut buf).ok_or(Refusal::BadArgument)?;
+    convert_array(target, args, &buf[..q], out)
 }
 
 // The source's `convert_to`: the one value that the arguments are, converted to the target. Nothing is assumed of the
 // bytes; a refusal leaves the lent buffer as it was, and a record fills the front of it.
-pub fn convert_to(target: &[u8], args: &[u8], out: &mut [u8]) -> Written
+pub fn convert_to(target: &[u8], args: &[u8], out: &mut [u8]) -> Result<usize, Refusal>
     ensures { Told (convert_answer target.now args.now (length out.old)) out.old result
         out.new }
 {
-    match ty::read_target(target) {
+    let found = ty::read_target(target).ok_or(Refusal::BadTarget)?;
+    match found {
         Target::Type => convert_to_type(target, args, out),
         Target::Runtime => convert_to_runtime(target, args, out),
-        Target::Array => Written::Refused(Refusal::BAD_TARGET),
-        Target::Vector(_) => Written::Refused(Refusal::BAD_TARGET),
-        Target::Matrix(_, _) => Written::Refused(Refusal::BAD_TARGET),
-        Target::Bad => Written::Refused(Refusal::BAD_TARGET),
+        _ => Err(Refusal::BadTarget),
     }
 }

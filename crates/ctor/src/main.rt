@@ -8,15 +8,14 @@ ghost use Rattle.record.specs.Bytes.{Put};
 ghost use Rattle.error.specs.Told.{Told};
 ghost use Rattle.ctor_line.specs.Split.{asked};
 
-use ctor_line::Input;
-use error::{Refusal, Written};
+use error::Refusal;
 use std::io::{self, ErrorKind, Read};
 
 // The answer to an input whose target has n bytes.
-fn ask(input: &[u8], n: usize, buffer: &mut [u8]) -> Written
+fn ask(input: &[u8], n: usize, buffer: &mut [u8]) -> Result<usize, Refusal>
     requires n_in_bounds { 3 + n ≤ length input.now }
     requires buffer_len { length buffer.old ≡ 65536 }
-    ensures { Told (asked build_answer (Input.Call n) input.now) buffer.old result buffer.new }
+    ensures { Told (asked build_answer (Some n) input.now) buffer.old result buffer.new }
 {
     let end = 3 + n;
     builtin::call_ctor(input[0], &input[3..end], &input[end..], buffer)
@@ -30,11 +29,11 @@ fn run(input: &[u8], out: &mut [u8]) -> usize
 {
     let mut buffer = [0u8; 65536];
     match ctor_line::split(input) {
-        Input::Call(n) => {
+        Some(n) => {
             let answer = ask(input, n, &mut buffer);
             ctor_line::put_line(answer, &buffer, out)
         }
-        Input::Bad => ctor_line::put_line(Written::Refused(Refusal::BAD_TARGET), &buffer, out),
+        None => ctor_line::put_line(Err(Refusal::BadTarget), &buffer, out),
     }
 }
 

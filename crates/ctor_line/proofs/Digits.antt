@@ -54,14 +54,6 @@ from_digits (suc d) (suc f) n s h l u =
 
 -- ---- the first digit's power
 
-pub record Power (n p : ℕ) : Type 0 where
-  pub place : ℕ
-  pub power : p ≡ 10 ^ place
-  pub low : p ≤ n + (1 - n)
-
-pub power_some : {n p : ℕ} → Power n p → 0 < p
-power_some i = omega (arith, i.power, pow_more i.place)
-
 module _ {n p : ℕ} (l : Leads n p) where
   next : 10 ^ suc l.place ≡ 10 * p
   next = pow-succ' 10 l.place ∙ ap (10 *◌) (sym l.power)

@@ -8,11 +8,11 @@ use lib.Seq.{length-take-le, take-append_seam, take_at, length-sets, sets-eq}
 use Rattle.meaning.specs.Answers.{Answer, ok, no, miscount}
 use Rattle.meaning.specs.Entries.{laid, decimal_from, decimal, line}
 use Rattle.record.specs.Bytes.{Put}
-use Rattle.error.specs.Told.{paper, by_length, Told}
-use Rattle.error.proofs.Told.{is_record, is_refused, is_miscount}
-use Rattle.error.specs.declared.Written.{Written}
-use Rattle.error.specs.declared.Written.TheVariants.{Record}
+use Rattle.error.specs.Refusals.{paper}
+use Rattle.error.specs.Told.{by_length, Told}
 use Rattle.ctor_line.specs.Printed.{answer_in, record_len}
+use Rattle.error.specs.Told.{Written}
+use Rattle.std.specs.declared.result.Result.TheVariants.{Ok, Err}
 
 pub eight : decimal 8 ≡ 56 ∷ []
 unfolding decimal decimal_from
@@ -25,7 +25,7 @@ miscount_line w g = rw (eight, append_assoc (decimal w) (32 ∷ []) (decimal g +
 
 -- ---- the record's bytes are there
 
-pub record_bytes : {r : Written} {n : ℕ} (buffer : List ℕ) → r ≡ Record n → record_len r ≤ length buffer → length (take n buffer) ≡ n
+pub record_bytes : {r : Written} {n : ℕ} (buffer : List ℕ) → r ≡ Ok n → record_len r ≤ length buffer → length (take n buffer) ≡ n
 unfolding record_len
 record_bytes {n = n} buffer e h = length-take-le n buffer (rw e at h)
 
@@ -42,13 +42,14 @@ module _ {a : Answer} {out out' : List ℕ} {r : Written} (t : Told a out r out'
       go (miscount w g) e l = rw e
 
   pub told_len : record_len r ≤ length out'
-  unfolding record_len by_length laid
-  told_len = go a t.says t.leaves
+  unfolding record_len paper by_length laid
+  told_len = go r a t.says t.leaves
     where
-      go : (b : Answer) → paper r ≡ by_length b → out' ≡ laid b out → record_len r ≤ length out'
-      go (ok s) e l = rw (is_record r e, l, length-append s (drop (length s) out)) (omega arith)
-      go (no n) e l = rw (is_refused r e) (omega arith)
-      go (miscount w g) e l = rw (is_miscount r e) (omega arith)
+      go : (q : Written) (b : Answer) → paper q ≡ by_length b → out' ≡ laid b out → record_len q ≤ length out'
+      go (Err x) b e l = omega arith
+      go (Ok n) (ok s) e l = let i : n ≡ length s = cc in rw (i, l, length-append s (drop (length s) out)) (omega arith)
+      go (Ok n) (no m) e l = absurd (let z : ◌≡◌ {A = ℕ} 0 1 = cc in omega arith)
+      go (Ok n) (miscount w g) e l = absurd (let z : ◌≡◌ {A = ℕ} 0 1 = cc in omega arith)
 
 -- the bytes up to the end are those that were stored
 pub put_front : {out out' bs : List ℕ} {r : ℕ} → Put out 0 bs r out' → r ≤ length out' → take r out' ≡ bs

@@ -1,9 +1,9 @@
 -- The answer that is printed.
 use Rattle.std.specs.Prelude.{List, ℕ, take}
 use Rattle.meaning.specs.Answers.{Answer, ok, ◌>>=◌}
-use Rattle.error.specs.Told.{paper}
-use Rattle.error.specs.declared.Written.{Written}
-use Rattle.error.specs.declared.Written.TheVariants.{Record, Refused, Miscount}
+use Rattle.error.specs.Refusals.{paper}
+use Rattle.error.specs.Told.{Written}
+use Rattle.std.specs.declared.result.Result.TheVariants.{Ok, Err}
 
 -- what an entry answered, the record being the first n bytes of the buffer that was lent
 unfoldable pub answer_in : Written → List ℕ → Answer
@@ -11,6 +11,5 @@ answer_in x buffer = paper x >>= λ n. ok (take n buffer)
 
 -- how many bytes the record is
 unfoldable pub record_len : Written → ℕ
-record_len (Record n) = n
-record_len (Refused n) = 0
-record_len (Miscount w g) = 0
+record_len (Ok n) = n
+record_len (Err x) = 0

@@ -6,37 +6,31 @@ ghost use Rattle.std.specs.Prelude.{◌≡◌, [], ◌∷◌, ◌++◌, ◌+◌,
 ghost use Rattle.meaning.specs.Answers.{ok, no, miscount};
 ghost use Rattle.meaning.specs.Entries.{hex_digit, hex, decimal, line};
 ghost use Rattle.record.specs.Bytes.{Put};
+ghost use Rattle.error.specs.Refusals as refusals;
 ghost use Rattle.ctor_line.specs.Printed.{answer_in, record_len};
 ghost use Rattle.ctor_line.specs.Digits.{Leads};
 ghost use Rattle.ctor_line.specs.Split.{split_of};
 
-use error::{Refusal, Written};
-use record::{join, put_byte, put_pair, put_three, size};
-
-// The standard input of the program: a call whose target has that many bytes, or none.
-#[derive(Clone, Copy)]
-pub enum Input {
-    Call(usize),
-    Bad,
-}
+use error::Refusal;
+use record::{join, put_byte, put_pair, put_three};
 
 // ---- the input
 
 // "a stage byte, a u16 target length, the target, then arguments (64 KiB in all)"
-pub fn split(input: &[u8]) -> Input
+pub fn split(input: &[u8]) -> Option<usize>
     ensures { result ≡ split_of input.now }
 {
     if input.len() < 3 {
-        return Input::Bad;
+        return None;
     }
-    let n = size(join(input[1], input[2]));
+    let n = usize::from(join(input[1], input[2]));
     if input.len() < 3 + n {
-        return Input::Bad;
+        return None;
     }
     if 65536 < input.len() {
-        return Input::Bad;
+        return None;
     }
-    Input::Call(n)
+    Some(n)
 }
 
 // ---- bytes
@@ -76,26 +70,20 @@ fn put_hex(bytes: &[u8], out: &mut [u8], to: usize) -> usize
     requires { to + 2 * length bytes.now ≤ length out.old }
     ensures { Put out.old to (hex bytes.now) result out.new }
 {
-    let mut i = 0;
     let mut p = to;
-    while i < bytes.len() {
-        p = put_digits(bytes[i], out, p);
-        i += 1;
+    for byte in bytes {
+        p = put_digits(*byte, out, p);
     }
     p
 }
 
 // ---- decimal
 
-// The power of ten that the first digit of n counts.
+// The power of ten that the first digit of n counts, and 1 for 0.
 fn top_power(n: u64) -> u64
     ensures { Leads n result }
 {
-    let mut p: u64 = 1;
-    while p <= n / 10 {
-        p = p * 10;
-    }
-    p
+    10u64.pow(n.max(1).ilog10())
 }
 
 fn digit(n: u64, p: u64) -> u8
@@ -157,22 +145,33 @@ fn put_miscount(wanted: usize, given: usize, out: &mut [u8]) -> usize
     ensures put { Put out.old 0 (line (miscount wanted given)) result out.new }
     ensures upper_bound { result ≤ length out.new }
 {
+    let refusal = Refusal::Count { wanted, given };
     let p = put_word(b'n', b'o', out);
-    let q = put_number(Refusal::COUNT as u64, b' ', out, p);
+    let q = put_number(refusal.number() as u64, b' ', out, p);
     let s = put_number(wanted as u64, b' ', out, q);
     put_number(given as u64, b'\n', out, s)
 }
 
+fn put_refusal(refusal: Refusal, out: &mut [u8]) -> usize
+    requires { 66 ≤ length out.old }
+    ensures put { Put out.old 0 (line (refusals.refusal refusal)) result out.new }
+    ensures upper_bound { result ≤ length out.new }
+{
+    if let Refusal::Count { wanted, given } = refusal {
+        return put_miscount(wanted, given, out);
+    }
+    put_no(refusal.number(), out)
+}
+
 // The line of an answer, at the front of `out`; its end is handed back. The record is at the front of `buffer`.
-pub fn put_line(answer: Written, buffer: &[u8], out: &mut [u8]) -> usize
+pub fn put_line(answer: Result<usize, Refusal>, buffer: &[u8], out: &mut [u8]) -> usize
     requires within { record_len answer ≤ length buffer.now }
     requires room { 66 + 2 * length buffer.now ≤ length out.old }
     ensures put { Put out.old 0 (line (answer_in answer buffer.now)) result out.new }
     ensures upper_bound { result ≤ length out.new }
 {
     match answer {
-        Written::Record(n) => put_ok(&buffer[..n], out),
-        Written::Refused(n) => put_no(n, out),
-        Written::Miscount(wanted, given) => put_miscount(wanted, given, out),
+        Ok(n) => put_ok(&buffer[..n], out),
+        Err(refusal) => put_refusal(refusal, out),
     }
 }

@@ -3,6 +3,7 @@ use mathlib.Core.Path.{◌≡◌, sym, ap, ◌∙◌, subst}
 use mathlib.Core.List.{List}
 use Prim.Native.Nat.{ℕ, ◌+◌, ◌-◌, ◌*◌, ◌≤◌, ◌<◌}
 use native.Mathlib.Omega.{arith}
+use lib.ListN.{length}
 use Rattle.meaning.specs.Kinds.{Kind}
 use Rattle.meaning.specs.Trees.{Ty, Ta, Tys, [·], ◌▸◌, tys_list, val_len}
 use Rattle.record.specs.Literals.{Sized}
@@ -11,18 +12,18 @@ use Rattle.derive.specs.Derives.{LeafFront, ArrayFront, StructFront}
 use Rattle.inst.proofs.ValueRows.{fits_end, none_fits}
 use Rattle.derive.proofs.Typings.{array_apart, struct_apart, firstly, Split}
 
-module _ (d : ℕ) (s : List ℕ) (at : ℕ) where
+module _ {d : ℕ} {s : List ℕ} {at : ℕ} where
   -- without parts
-  pub leaf_end : (g : Kind → Ty) (k most l : ℕ) → LeafFront d s at g k → Sized k (λ j. val_len (g j)) most l → EndsAt d s at (at + l)
-  leaf_end g k most l f z t e w = ap (λ (n : ℕ). at + n) (z.is f.kind f.no ∙ ap val_len (sym (f.only t e w)))
+  pub leaf_end : {g : Kind → Ty} {k most l : ℕ} → LeafFront d s at g k → Sized k (λ j. val_len (g j)) most l → EndsAt d s at (at + l)
+  leaf_end f z t e w = ap (λ (n : ℕ). at + n) (z.is f.kind f.no ∙ ap val_len (sym (f.only t e w)))
       ∙ sym (fits_end s at t e w.fits)
 
-  module _ (n : ℕ) (f : ArrayFront d s at n) where
-    split : (t : Ty) (e : ℕ) → Typed d s at t e → (u : Ty) × (t ≡ Ta n u) × Split d s at n f u e
+  module _ {n : ℕ} (f : ArrayFront d s at n) where
+    split : (t : Ty) (e : ℕ) → Typed d s at t e → (u : Ty) × (t ≡ Ta n u) × Split f u e
     split t e w = let a = f.only t e w in (
       a.elem,
       a.is,
-      array_apart d s at n f a.elem e
+      array_apart f a.elem e
           (subst (λ (u : Ty). Typed d s at u e) a.is w),
     )
 
@@ -41,11 +42,17 @@ module _ (d : ℕ) (s : List ℕ) (at : ℕ) where
         let l : e ≡ at + (4 + n * val_len u) = fits_end s at t e w.fits ∙ ap (λ (v : Ty). at + val_len v) x.1 in
         (omega arith, rw (j, p) (omega arith))
 
-  module _ (i n : ℕ) (f : StructFront d s at i n) where
+    -- so it is within the bytes
+    pub array_within : (r k : ℕ) → k ≡ n → EndsAt (d - 1) s (at + 4) r → Having d s at → (at + 4 ≤ r)
+        × (at + 4 + k * (r - (at + 4)) ≤ length s)
+    array_within r k p g h =
+        let x = array_end r k p g h.type h.end h.typed in (x.0, omega (arith, x.1, h.typed.fits.within))
+
+  module _ {i n : ℕ} (f : StructFront d s at i n) where
     members : (t : Ty) (e : ℕ) → Typed d s at t e → (m : Tys) × TypedAll (d - 1) s (at + 6) n m e
     members t e w = let a = f.only t e w in (
       a.members,
-      struct_apart d s at i n f a.members e a.count
+      struct_apart f a.members e a.count
           (subst (λ (u : Ty). Typed d s at u e) a.is w),
     )
 
@@ -57,23 +64,19 @@ module _ (d : ℕ) (s : List ℕ) (at : ℕ) where
 
 -- ---- the loop over members: what is left of them ends where all of them do
 
-module _ (d : ℕ) (s : List ℕ) (i left : ℕ) (e : ℕ) where
-  pub record SkipLeft : Type 0 where
-    pub types : Tys
-    pub typed : TypedAll d s i left types e
+pub record SkipLeft (d : ℕ) (s : List ℕ) (i left e : ℕ) : Type 0 where
+  pub types : Tys
+  pub typed : TypedAll d s i left types e
 
-module _ (d : ℕ) (s : List ℕ) (i left e : ℕ) (w : SkipLeft d s i left e) where
+module _ {d : ℕ} {s : List ℕ} {i left e : ℕ} (w : SkipLeft d s i left e) where
   pub left_having : 0 < left → Having d s i
-  left_having h = let f = firstly d s i left w.types e h w.typed in record { type = f.type; end = f.mid; typed = f.one }
+  left_having h = let f = firstly h w.typed in record { type = f.type; end = f.mid; typed = f.one }
 
-  pub left_skip : 0 < left → (r : ℕ) → EndsAt d s i r → SkipLeft d s r (left - 1) e
-  left_skip h r g =
-      let f = firstly d s i left w.types e h w.typed in
-      record {
-        types = f.others;
-        typed = subst (λ (j : ℕ). TypedAll d s j (left - 1) f.others e) (sym (g f.type f.mid f.one))
-            f.rest;
-      }
+  pub left_skip : {others : ℕ} → left ≡ others + 1 → {r : ℕ} → EndsAt d s i r → SkipLeft d s r others e
+  left_skip {others} h g =
+      let f = firstly (let k : 0 < left = omega arith in k) w.typed in
+      let k : left - 1 ≡ others = omega arith in
+      record { types = f.others; typed = rw (g f.type f.mid f.one) (rw k at f.rest) }
 
   pub left_done : left ≡ 0 → i ≡ e
   unfolding tys_list

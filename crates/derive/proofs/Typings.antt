@@ -1,6 +1,6 @@
 -- The type of a value and its record: what a value says of its type, and what the steps of deriving it come to.
 use mathlib.Core.Path.{◌≡◌, refl, sym, ap, ◌∙◌, subst}
-use mathlib.Core.Option.{Option, none, some}
+use mathlib.Core.Option.{Option as Maybe, none, some}
 use mathlib.Core.Bool.{◌&&◌}
 use mathlib.Core.List.{List, [], ◌∷◌, ◌++◌}
 use Prim.Native.Nat.{ℕ, suc, ◌+◌, ◌-◌, ◌/◌, ◌%◌, ◌≤◌, ◌<◌}
@@ -21,23 +21,21 @@ use Rattle.record.proofs.Puts.{put_nil, put_length, put_put}
 use Rattle.ty.proofs.Places.{put_stands}
 use Rattle.inst.specs.Values.{Fits, FitsAll, Typed, TypedAll, copies}
 use Rattle.inst.specs.Reading.{ReadAs}
-use Rattle.derive.specs.Derives.{LeafFront, ArrayFront, StructFront, FrontIs, Wrote, Tried, type_front, Found, Derives, DerivesAll}
-use Rattle.derive.specs.declared.Front.{Front}
-use Rattle.derive.specs.declared.Front.TheVariants.{Scalar, Vector, Matrix, Array, Struct, Neither}
-use Rattle.inst.specs.declared.ValueEnd.{ValueEnd}
-use Rattle.inst.specs.declared.ValueEnd.TheVariants.{At}
-use Rattle.inst.specs.declared.Derived.{Derived}
-use Rattle.inst.specs.declared.Derived.TheVariants.{Ends, Unfit}
+use Rattle.derive.specs.Derives.{LeafFront, ArrayFront, StructFront, FrontIs, Wrote, type_front, Found, Derives, DerivesAll}
+use Rattle.ty.specs.declared.Head.{Head}
+use Rattle.ty.specs.declared.Head.TheVariants.{Scalar, Vector, Matrix, Array, Struct}
 use Rattle.inst.proofs.ValueRows.{nil_fits, cons_fits, first_fits, each_on, copies_more, fits_end}
 use Rattle.inst.proofs.ValueParts.{parts_of, front_bytes}
 use Rattle.inst.proofs.Starts.{parts_same}
+use Rattle.std.specs.declared.option.Option.{Option}
+use Rattle.std.specs.declared.option.Option.TheVariants.{None, Some}
 
 -- ---- a value that stands there has one type
 
 module _ (d d' : ℕ) (s : List ℕ) (at : ℕ) (t t' : Ty) (e e' : ℕ) (w : Typed d s at t e) (w' : Typed d' s at t' e') where
   pub same_value : w.fits.value ≡ w'.fits.value
   same_value =
-      ap (λ (o : Option (Val × List ℕ)). let x : Val = elim o [ none ↦ w.fits.value | some r ↦ r.0 ] in x)
+      ap (λ (o : Maybe (Val × List ℕ)). let x : Val = elim o [ none ↦ w.fits.value | some r ↦ r.0 ] in x)
       (sym (back d t e w (omega arith)) ∙ back d' t' e' w' (omega arith))
     where
       n : ℕ
@@ -68,11 +66,11 @@ pub record LeafAt (d : ℕ) (s : List ℕ) (at : ℕ) (out : List ℕ) (o p : �
   pub only : (t : Ty) (e : ℕ) → Typed d s at t e → t ≡ type
   pub wrote : Wrote out o (ty_bytes type) p out₁
 
-module _ (d : ℕ) (s : List ℕ) (at : ℕ) (out : List ℕ) (o p : ℕ) (out₁ : List ℕ) where
+module _ {d : ℕ} {s : List ℕ} {at : ℕ} {out : List ℕ} {o p : ℕ} {out₁ : List ℕ} where
   -- F is how a type of that shape is written, by its kind's number
-  leaf_at : (g : Kind → Ty) (F : ℕ → List ℕ) (k : ℕ) → ((j : Kind) → F (kind_no j) ≡ ty_bytes (g j)) → LeafFront d s at g k
+  leaf_at : (g : Kind → Ty) (F : ℕ → List ℕ) {k : ℕ} → ((j : Kind) → F (kind_no j) ≡ ty_bytes (g j)) → LeafFront d s at g k
       → Wrote out o (F k) p out₁ → LeafAt d s at out o p out₁
-  leaf_at g F k q f w =
+  leaf_at g F q f w =
       record {
         type = g f.kind;
         shaped = f.shaped;
@@ -82,27 +80,15 @@ module _ (d : ℕ) (s : List ℕ) (at : ℕ) (out : List ℕ) (o p : ℕ) (out�
             (ap F f.no ∙ q f.kind) w;
       }
 
-  -- after `front_at` and `put_type_front`
-  module _ (f : Front) (x : FrontIs d s at f) (r : ValueEnd) (w : Tried out o (type_front f) r out₁) (e : r ≡ At p) where
-    pub front_is : (g : Front) → f ≡ g → FrontIs d s at g
-    front_is g q = subst (FrontIs d s at) q x
-
-    pub front_wrote : (g : Front) → f ≡ g → Wrote out o (type_front g) p out₁
-    front_wrote g q = subst (λ (h : Front). Wrote out o (type_front h) p out₁) q
-        (subst (λ (v : ValueEnd). Tried out o (type_front f) v out₁) e w)
-
-    pub scalar_leaf : (k : ℕ) → f ≡ Scalar k → LeafAt d s at out o p out₁
-    unfolding ty_bytes
-    scalar_leaf k q = leaf_at Ts (λ i. type_front (Scalar i)) k (λ j. refl) (front_is (Scalar k) q) (front_wrote (Scalar k) q)
-
-    pub vector_leaf : (n k : ℕ) → f ≡ Vector n k → LeafAt d s at out o p out₁
-    unfolding ty_bytes
-    vector_leaf n k q = leaf_at (Tv n) (λ i. type_front (Vector n i)) k (λ j. refl) (front_is (Vector n k) q) (front_wrote (Vector n k) q)
-
-    pub matrix_leaf : (c r k : ℕ) → f ≡ Matrix c r k → LeafAt d s at out o p out₁
-    unfolding ty_bytes
-    matrix_leaf c r k q = leaf_at (Tm c r) (λ i. type_front (Matrix c r i)) k (λ j. refl) (front_is (Matrix c r k) q)
-        (front_wrote (Matrix c r k) q)
+  -- the front that was found and written, of no array and no struct
+  pub front_leaf : (f : Head) → ((n : ℕ) → f ≡ Array n → ⊥) → ((i n : ℕ) → f ≡ Struct i n → ⊥) → FrontIs d s at (Some f)
+      → Wrote out o (type_front f) p out₁ → LeafAt d s at out o p out₁
+  unfolding ty_bytes
+  front_leaf (Scalar k) a b x w = leaf_at Ts (λ i. type_front (Scalar i)) (λ j. refl) x w
+  front_leaf (Vector n k) a b x w = leaf_at (Tv n) (λ i. type_front (Vector n i)) (λ j. refl) x w
+  front_leaf (Matrix c r k) a b x w = leaf_at (Tm c r) (λ i. type_front (Matrix c r i)) (λ j. refl) x w
+  front_leaf (Array n) a b x w = absurd (a n refl)
+  front_leaf (Struct i n) a b x w = absurd (b i n refl)
 
   module _ (l : LeafAt d s at out o p out₁) where
     stood : Stands d out₁ o l.type p
@@ -111,15 +97,15 @@ module _ (d : ℕ) (s : List ℕ) (at : ℕ) (out : List ℕ) (o p : ℕ) (out�
     pub leaf_stands : Standing d out₁ o
     leaf_stands = record { type = l.type; end = p; stands = stood }
 
-    pub leaf_derives : (r : Derived) → ReadAs d out₁ o s at r → Derives d s at out o r out₁
-    leaf_derives (Ends e q) h =
+    pub leaf_derives : (r : Option (ℕ × ℕ)) → ReadAs d out₁ o s at r → Derives d s at out o r out₁
+    leaf_derives (Some (e, q)) h =
         let x = h l.type p stood in
         record { type = l.type; typed = record { fits = x.0; shaped = l.shaped; deep = l.deep }; wrote = rw x.1 l.wrote }
-    leaf_derives Unfit h = λ t e v. absurd (h l.type p stood e (subst (λ (u : Ty). Fits s at u e) (l.only t e v) v.fits))
+    leaf_derives None h = λ t e v. absurd (h l.type p stood e (subst (λ (u : Ty). Fits s at u e) (l.only t e v) v.fits))
 
 -- ---- there is no room for the front
 
-pub front_full : (d : ℕ) (s : List ℕ) (at : ℕ) (f : Front) → FrontIs d s at f → (out : List ℕ) (o : ℕ)
+pub front_full : (d : ℕ) (s : List ℕ) (at : ℕ) (f : Head) → FrontIs d s at (Some f) → (out : List ℕ) (o : ℕ)
     → length out < o + length (type_front f)
     → (t : Ty) (e : ℕ) → Typed d s at t e → length out < o + length (ty_bytes t)
 unfolding ty_bytes le
@@ -128,18 +114,23 @@ front_full d s at (Vector n k) x out o h t e w = rw (x.only t e w) h
 front_full d s at (Matrix c r k) x out o h t e w = rw (x.only t e w) h
 front_full d s at (Array n) x out o h t e w = rw (x.only t e w).is (omega arith)
 front_full d s at (Struct i n) x out o h t e w = rw (x.only t e w).is (omega arith)
-front_full d s at Neither x out o h t e w = absurd (x t e w)
+
+-- ---- a type that was found stands where its record was written
+
+pub found_stands : {d : ℕ} {s : List ℕ} {at : ℕ} {out : List ℕ} {o e q : ℕ} {out' : List ℕ} (x : Found d s at out o e q out')
+    → Stands d out' o x.type q
+found_stands x = put_stands x.type x.typed.shaped x.typed.deep x.wrote.put x.wrote.room
 
 -- ---- arrays
 
-module _ (d : ℕ) (s : List ℕ) (at n : ℕ) (f : ArrayFront d s at n) where
+module _ {d : ℕ} {s : List ℕ} {at n : ℕ} (f : ArrayFront d s at n) where
   array_typed : (t : Ty) (mid e : ℕ) → Typed (d - 1) s (at + 4) t mid → FitsAll s mid (copies (n - 1) t) e → Typed d s at (Ta n t) e
   unfolding parts_of front_bytes shaped_ty depth le u16
   array_typed t mid e v l =
       let h = f.deep in
       let i = f.some in
       record {
-        fits = (parts_same s at (Ta n t) i f.starts e).0 ((each_on s (at + 4) n t i mid v.fits e).0 l);
+        fits = (parts_same s at (Ta n t) i f.starts e).0 ((each_on (n - 1) (omega arith) v.fits e).0 l);
         shaped = both (leb 1 n && leb n 65535) (shaped_ty t) (both (leb 1 n) (leb n 65535) (le→leb 1 n i) (le→leb n 65535 f.most))
             v.shaped;
         deep = omega (arith, v.deep);
@@ -166,14 +157,9 @@ module _ (d : ℕ) (s : List ℕ) (at n : ℕ) (f : ArrayFront d s at n) where
         rest = x.rest;
       }
 
-  module _ (out : List ℕ) (o p : ℕ) (out₁ : List ℕ) (w : Wrote out o (type_front (Array n)) p out₁) (out₂ : List ℕ) where
-    pub array_found : (mid q e : ℕ) (x : Found (d - 1) s (at + 4) out₁ p mid q out₂) → FitsAll s mid (copies (n - 1) x.type) e
-        → Found d s at out o e q out₂
-    unfolding ty_bytes le
-    array_found mid q e x l =
-        record { type = Ta n x.type; typed = array_typed x.type mid e x.typed l; wrote = wrote_both w x.wrote }
-
-    pub array_stop : Derives (d - 1) s (at + 4) out₁ p Unfit out₂ → Derives d s at out o Unfit out₂
+  module _ {out : List ℕ} {o p : ℕ} {out₁ : List ℕ} (w : Wrote out o (type_front (Array n)) p out₁) where
+    pub array_stop : ((t : Ty) (e : ℕ) → Typed (d - 1) s (at + 4) t e → length out₁ < p + length (ty_bytes t))
+        → (t : Ty) (e : ℕ) → Typed d s at t e → length out < o + length (ty_bytes t)
     unfolding ty_bytes le
     array_stop h t e v =
         let a = f.only t e v in
@@ -181,9 +167,16 @@ module _ (d : ℕ) (s : List ℕ) (at n : ℕ) (f : ArrayFront d s at n) where
         let z = h a.elem y.mid y.first in
         rw a.is (omega (arith, z, w.put.end, put_length w.put))
 
-    pub array_unlike : (mid q : ℕ) (x : Found (d - 1) s (at + 4) out₁ p mid q out₂)
-        → ((e : ℕ) → FitsAll s mid (copies (n - 1) x.type) e → ⊥) → Derives d s at out o Unfit out₂
-    array_unlike mid q x h t e v =
+    pub array_found : {out₂ : List ℕ} {mid q e : ℕ} (x : Found (d - 1) s (at + 4) out₁ p mid q out₂) → FitsAll s mid (copies (n - 1) x.type) e
+        → Found d s at out o e q out₂
+    unfolding ty_bytes le
+    array_found {e = e} x l =
+        record { type = Ta n x.type; typed = array_typed x.type _ e x.typed l; wrote = wrote_both w x.wrote }
+
+    pub array_unlike : {out₂ : List ℕ} {mid q : ℕ} (x : Found (d - 1) s (at + 4) out₁ p mid q out₂)
+        → ((e : ℕ) → FitsAll s mid (copies (n - 1) x.type) e → ⊥)
+        → (t : Ty) (e : ℕ) → Typed d s at t e → length out < o + length (ty_bytes t)
+    array_unlike {mid = mid} x h t e v =
         let a = f.only t e v in
         let y = array_apart a.elem e (subst (λ (u : Ty). Typed d s at u e) a.is v) in
         let i : a.elem ≡ x.type = same_typed (d - 1) (d - 1) s (at + 4) a.elem x.type y.mid mid y.first x.typed in
@@ -192,12 +185,9 @@ module _ (d : ℕ) (s : List ℕ) (at n : ℕ) (f : ArrayFront d s at n) where
         absurd (h e (subst (λ (u : Ty). FitsAll s mid (copies (n - 1) u) e) i
         (subst (λ (k : ℕ). FitsAll s k (copies (n - 1) a.elem) e) j y.rest)))
 
-    pub first_stands : (mid q : ℕ) (x : Found (d - 1) s (at + 4) out₁ p mid q out₂) → Stands (d - 1) out₂ p x.type q
-    first_stands mid q x = put_stands x.type x.typed.shaped x.typed.deep x.wrote.put x.wrote.room
-
 -- ---- structs
 
-module _ (d : ℕ) (s : List ℕ) (at i n : ℕ) (f : StructFront d s at i n) where
+module _ {d : ℕ} {s : List ℕ} {at i n : ℕ} (f : StructFront d s at i n) where
   front_bytes_lem : (m : Tys) → length (tys_list m) ≡ n → front_bytes (Tu i m) ≡ 86 ∷ 117 ∷ i % 256 ∷ i / 256 % 256 ∷ n % 256 ∷ n / 256 % 256 ∷ []
   unfolding front_bytes le
   front_bytes_lem m c = rw c
@@ -237,15 +227,15 @@ module _ (d : ℕ) (s : List ℕ) (at i n : ℕ) (f : StructFront d s at i n) wh
   unfolding ty_bytes le
   type_bytes m c = rw c
 
-  pub struct_derives : (out : List ℕ) (o p : ℕ) (out₁ out₂ : List ℕ) → Wrote out o (type_front (Struct i n)) p out₁ → (r : Derived)
-      → DerivesAll (d - 1) s (at + 6) n out₁ p r out₂ → Derives d s at out o r out₂
-  struct_derives out o p out₁ out₂ w (Ends e q) x =
+  pub struct_derives : {out : List ℕ} {o p : ℕ} {out₁ : List ℕ} (out₂ : List ℕ) → Wrote out o (type_front (Struct i n)) p out₁
+      → (r : Option (ℕ × ℕ)) → DerivesAll (d - 1) s (at + 6) n out₁ p r out₂ → Derives d s at out o r out₂
+  struct_derives {out} {o} out₂ w (Some (e, q)) x =
       record {
         type = Tu i x.types;
         typed = struct_typed x.types e x.typed;
         wrote = subst (λ (b : List ℕ). Wrote out o b q out₂) (sym (type_bytes x.types x.typed.count)) (wrote_both w x.wrote);
       }
-  struct_derives out o p out₁ out₂ w Unfit h = λ t e v.
+  struct_derives out₂ w None h = λ t e v.
       let a = f.only t e v in
       let z = h a.members e (struct_apart a.members e a.count (subst (λ (u : Ty). Typed d s at u e) a.is v)) in
       let y : length (ty_bytes (Tu i a.members)) ≡ length (type_front (Struct i n) ++ tys_bytes a.members) = ap length
@@ -254,20 +244,20 @@ module _ (d : ℕ) (s : List ℕ) (at i n : ℕ) (f : StructFront d s at i n) wh
 
 -- ---- the loop over members
 
-module _ (d : ℕ) (s : List ℕ) (i : ℕ) where
-  -- the first of some values, and the others
-  pub record Firstly (left : ℕ) (m : Tys) (e : ℕ) : Type 0 where
-    pub type : Ty
-    pub others : Tys
-    pub mid : ℕ
-    pub is : m ≡ type ▸ others
-    pub one : Typed d s i type mid
-    pub rest : TypedAll d s mid (left - 1) others e
+-- the first of some values, and the others
+pub record Firstly (d : ℕ) (s : List ℕ) (i left : ℕ) (m : Tys) (e : ℕ) : Type 0 where
+  pub type : Ty
+  pub others : Tys
+  pub mid : ℕ
+  pub is : m ≡ type ▸ others
+  pub one : Typed d s i type mid
+  pub rest : TypedAll d s mid (left - 1) others e
 
-  pub firstly : (left : ℕ) (m : Tys) (e : ℕ) → 0 < left → TypedAll d s i left m e → Firstly left m e
+module _ {d : ℕ} {s : List ℕ} {i : ℕ} where
+  pub firstly : {left : ℕ} {m : Tys} {e : ℕ} → 0 < left → TypedAll d s i left m e → Firstly d s i left m e
   unfolding tys_list shaped_tys depths
-  firstly left [·] e h w = absurd (omega (arith, w.count))
-  firstly left (t ▸ m) e h w =
+  firstly {m = [·]} h w = absurd (omega (arith, w.count))
+  firstly {m = t ▸ m} {e} h w =
       let x = first_fits s i t m e w.fits in
       record {
         type = t;
@@ -285,7 +275,7 @@ module _ (d : ℕ) (s : List ℕ) (i : ℕ) where
       }
 
 module _ (d : ℕ) (s : List ℕ) (i : ℕ) (out : List ℕ) (p : ℕ) where
-  pub members_end : (left : ℕ) → left ≡ 0 → i ≤ length s → p ≤ length out → DerivesAll d s i left out p (Ends i p) out
+  pub members_end : (left : ℕ) → left ≡ 0 → i ≤ length s → p ≤ length out → DerivesAll d s i left out p (Some (i, p)) out
   unfolding tys_list shaped_tys depths ty_bytes
   members_end left z h l =
       record {
@@ -295,16 +285,16 @@ module _ (d : ℕ) (s : List ℕ) (i : ℕ) (out : List ℕ) (p : ℕ) where
       }
 
   module _ (left : ℕ) (h : 0 < left) (out₁ : List ℕ) where
-    pub members_stop : Derives d s i out p Unfit out₁ → DerivesAll d s i left out p Unfit out₁
+    pub members_stop : Derives d s i out p None out₁ → DerivesAll d s i left out p None out₁
     unfolding tys_bytes
     members_stop g m e w =
-        let x = firstly d s i left m e h w in
+        let x = firstly h w in
         rw x.is (omega (arith, g x.type x.mid x.one, length-append (ty_bytes x.type) (tys_bytes x.others)))
 
-    pub members_on : (e q : ℕ) → Found d s i out p e q out₁ → (r : Derived) (out₂ : List ℕ) → DerivesAll d s e (left - 1) out₁ q r out₂
-        → DerivesAll d s i left out p r out₂
+    pub members_on : (others : ℕ) → left ≡ others + 1 → {e q : ℕ} → Found d s i out p e q out₁ → (r : Option (ℕ × ℕ)) (out₂ : List ℕ)
+        → DerivesAll d s e others out₁ q r out₂ → DerivesAll d s i left out p r out₂
     unfolding tys_list shaped_tys depths tys_bytes
-    members_on e q x (Ends z y) out₂ v =
+    members_on others c {e} x (Some (z, y)) out₂ v =
         record {
           types = x.type ▸ v.types;
           typed = record {
@@ -315,12 +305,13 @@ module _ (d : ℕ) (s : List ℕ) (i : ℕ) (out : List ℕ) (p : ℕ) where
           };
           wrote = wrote_both x.wrote v.wrote;
         }
-    members_on e q x Unfit out₂ g = λ m z w.
-        let f = firstly d s i left m z h w in
+    members_on others c {e} x None out₂ g = λ m z w.
+        let f = firstly h w in
+        let a : left - 1 ≡ others = omega arith in
         let j : f.type ≡ x.type = same_typed d d s i f.type x.type f.mid e f.one x.typed in
         let k : f.mid ≡ e = fits_end s i f.type f.mid f.one.fits
         ∙ sym (fits_end s i f.type e (subst (λ (u : Ty). Fits s i u e) (sym j) x.typed.fits)) in
-        let y = g f.others z (subst (λ (a : ℕ). TypedAll d s a (left - 1) f.others z) k f.rest) in
+        let y = g f.others z (rw (k, a) at f.rest) in
         let b : length (ty_bytes f.type) ≡ length (ty_bytes x.type) = ap (λ (u : Ty). length (ty_bytes u)) j in
         rw f.is (omega (
           arith,

@@ -1,3 +1,4 @@
+pub mod Refusals
 -- what an answer is, by its number and values; refusals; records written at the front of a buffer; records handed over
 -- as they stand; answers in numbers
 pub mod Told

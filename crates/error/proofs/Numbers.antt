@@ -5,24 +5,37 @@ use Prim.Native.Nat.{ℕ}
 use lib.ListN.{length}
 use Rattle.meaning.specs.Answers.{ok, no, miscount, refusal_of}
 use Rattle.meaning.specs.Answers as definition
-use Rattle.error.specs.Told.{Told, paper, by_length}
-use Rattle.error.specs.Numbers.{numbers, in_numbers, Records, value_of, wanted_of, given_of}
+use Rattle.error.specs.Refusals.{number, paper}
+use Rattle.error.specs.declared.Refusal.TheVariants.{Count}
+use Rattle.error.proofs.Refusals as refusals
+use Rattle.error.specs.Told.{Written, Told, by_length}
+use Rattle.error.specs.Numbers.{numbers, refused_numbers, in_numbers, Records, value_of, wanted_of, given_of}
 use Rattle.error.specs.declared.Answer.{Answer}
-use Rattle.error.specs.declared.Written.{Written}
-use Rattle.error.specs.declared.Written.TheVariants as written
+use Rattle.error.specs.declared.Refusal.{Refusal}
+use Rattle.std.specs.declared.result.Result.TheVariants.{Ok, Err}
 
+-- a refusal without counts
+pub plain_numbers : (x : Refusal) → ((w g : ℕ) → x ≡ Count w g → ⊥) → numbers (number x) 0 0 0 ≡ refused_numbers x
+unfolding refusal_of value_of wanted_of given_of
+plain_numbers x h = go x (refusals.told x) h
+  where
+    go : (y : Refusal) → refusals.Told y → ((w g : ℕ) → y ≡ Count w g → ⊥) → numbers (number y) 0 0 0 ≡ refused_numbers y
+    go y (refusals.plain e) n = rw (e ℕ) refl
+    go _ (refusals.counted w g) n = absurd (n w g refl)
+
+pub counted_numbers : (x : Refusal) (w g : ℕ) → x ≡ Count w g → numbers 8 0 w g ≡ refused_numbers x
+unfolding refusal_of value_of wanted_of given_of
+counted_numbers x w g e = rw e refl
+
+-- an answer's case in numbers
 module _ (x : Written) where
-  pub recorded : (n : ℕ) → x ≡ written.Record n → numbers 0 n 0 0 ≡ in_numbers (λ n. n) (paper x)
+  pub recorded : (n : ℕ) → x ≡ Ok n → numbers 0 n 0 0 ≡ in_numbers (λ n. n) (paper x)
   unfolding paper refusal_of value_of wanted_of given_of
   recorded n g = rw g refl
 
-  pub refused : (n : ℕ) → x ≡ written.Refused n → numbers n 0 0 0 ≡ in_numbers (λ n. n) (paper x)
-  unfolding paper refusal_of value_of wanted_of given_of
-  refused n g = rw g refl
-
-  pub miscounted : (w g : ℕ) → x ≡ written.Miscount w g → numbers 8 0 w g ≡ in_numbers (λ n. n) (paper x)
-  unfolding paper refusal_of value_of wanted_of given_of
-  miscounted w g e = rw e refl
+  pub refused : (y : Refusal) → x ≡ Err y → refused_numbers y ≡ in_numbers (λ n. n) (paper x)
+  unfolding paper
+  refused y g = rw g refl
 
 -- a record's number is its length
 by_length_lem : (a : definition.Answer) → in_numbers (λ n. n) (by_length a) ≡ in_numbers length a

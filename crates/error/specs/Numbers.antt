@@ -3,6 +3,8 @@ use Rattle.std.specs.Prelude.{◌≡◌, List, ℕ, length}
 use Rattle.meaning.specs.Answers.{Result, ok, no, miscount, refusal_of}
 use Rattle.meaning.specs.Answers as definition
 use Rattle.meaning.specs.Entries.{laid}
+use Rattle.error.specs.Refusals.{refusal}
+use Rattle.error.specs.declared.Refusal.{Refusal}
 use Rattle.error.specs.declared.Answer.{Answer}
 
 abbrev pub numbers : ℕ → ℕ → ℕ → ℕ → Answer
@@ -27,6 +29,10 @@ given_of (miscount w g) = g
 -- the four numbers of an answer, whose value f gives
 abbrev pub in_numbers : {A : Type 0} → (A → ℕ) → Result A → Answer
 in_numbers f a = numbers (refusal_of a) (value_of f a) (wanted_of a) (given_of a)
+
+-- those of a refusal
+abbrev pub refused_numbers : Refusal → Answer
+refused_numbers x = in_numbers {A = ℕ} (λ n. n) (refusal x)
 
 -- a record's answer in numbers, the record by its length, and the buffer at exit
 pub record Records (a : definition.Answer) (out : List ℕ) (r : Answer) (out' : List ℕ) : Type 0 where

@@ -3,14 +3,11 @@ use Rattle.std.specs.Prelude.{◌≡◌, List, ℕ, length}
 use Rattle.meaning.specs.Trees.{Val}
 use Rattle.meaning.specs.Answers.{Result, ok, no, miscount, Answer, ◌>>=◌}
 use Rattle.meaning.specs.Entries.{laid, hand_val}
-use Rattle.error.specs.declared.Written.{Written}
-use Rattle.error.specs.declared.Written.TheVariants.{Record, Refused, Miscount}
+use Rattle.error.specs.Refusals.{Refusing, paper}
 
--- the paper's number and values for each case of the answer; a record is told by its length
-unfoldable pub paper : Written → Result ℕ
-paper (Record n) = ok n
-paper (Refused n) = no n
-paper (Miscount w g) = miscount w g
+-- what an entry that writes a record answers: the record's length, or a refusal
+abbrev pub Written : Type 0
+Written = Refusing ℕ
 
 -- a definition's answer, its record by its length
 unfoldable pub by_length : Answer → Result ℕ

@@ -1,90 +1,115 @@
-// The source's error.rs: the refusals by their numbers, and the answer of an entry that writes a record.
+// The source's error.rs: the refusals, and the answer of an entry in numbers.
 #![tactic(auto)]
 
 ghost use Rattle.std.specs.Prelude.{◌≡◌, length};
-ghost use Rattle.error.specs.Told.{paper, Told};
-ghost use Rattle.error.specs.Numbers.{numbers, in_numbers};
+ghost use Rattle.error.specs.Refusals.{number, paper};
+ghost use Rattle.error.specs.Told.{Told};
+ghost use Rattle.error.specs.Numbers.{numbers, refused_numbers, in_numbers};
 ghost use Rattle.error.specs.Hand.{handed};
 
-// The refusals of documents 01 and 02, by their numbers, each with its words. The numbers are written once, here.
+// The refusals of documents 01 and 02, each with its words; `number` gives each its number.
 #[derive(Clone, Copy)]
-pub struct Refusal;
-
-impl Refusal {
+pub enum Refusal {
     // "bad target record"
-    pub const BAD_TARGET: u8 = 1;
+    BadTarget,
 
     // "bad argument"
-    pub const BAD_ARGUMENT: u8 = 2;
+    BadArgument,
 
     // "stage over 2"
-    pub const NO_STAGE: u8 = 3;
+    NoStage,
 
     // "not constructible (abstract scalar with arguments, typing of an abstract scalar, building `Tr` with none)"
-    pub const NOT_CONSTRUCTIBLE: u8 = 4;
+    NotConstructible,
 
     // "scalar with two or more arguments (typing: also one non-scalar)"
-    pub const SEVERAL_FOR_SCALAR: u8 = 5;
+    SeveralForScalar,
 
     // "scalar given a non-scalar"
-    pub const NOT_A_SCALAR: u8 = 6;
+    NotAScalar,
 
     // "shape or type mismatch"
-    pub const MISMATCH: u8 = 7;
+    Mismatch,
 
     // "count"; "only 8 carries more: wanted and given"
-    pub const COUNT: u8 = 8;
+    Count { wanted: usize, given: usize },
 
     // "doesn't convert"
-    pub const NO_CONVERSION: u8 = 9;
+    NoConversion,
 
     // "no common type, or a component that doesn't convert"
-    pub const NO_COMMON_TYPE: u8 = 10;
+    NoCommonType,
 
     // "arguments needed"
-    pub const ARGUMENTS_NEEDED: u8 = 11;
+    ArgumentsNeeded,
 
     // "vector part not scalar (also one vector into an abstract vector type)"
-    pub const VECTOR_PART: u8 = 12;
+    VectorPart,
 
     // "floats needed (also one matrix into a kind 2 matrix type)"
-    pub const FLOATS_NEEDED: u8 = 13;
+    FloatsNeeded,
 
     // "column length"
-    pub const COLUMN_LENGTH: u8 = 14;
+    ColumnLength,
 
     // "integer outside i32 or u32"
-    pub const INTEGER_RANGE: u8 = 15;
+    IntegerRange,
 
     // "typing only: `Tr`, or an abstract vector type"
-    pub const NOT_TYPED: u8 = 16;
+    NotTyped,
 
     // "outside the float's range because the stage is Const", and "at Override .. wherever Const does"
-    pub const FLOAT_RANGE: u8 = 21;
+    FloatRange,
 
     // "the accepted record is longer than the lent buffer, also where its length is past 64 bits"
-    pub const NO_ROOM: u8 = 22;
+    NoRoom,
 
     // a batch: "more than 256 jobs"
-    pub const TOO_MANY_JOBS: u8 = 23;
+    TooManyJobs,
 
     // a batch: "a job whose part reaches outside the slice, or is empty and begins past its end"
-    pub const PART_OUTSIDE: u8 = 24;
+    PartOutside,
 
     // memory: "a type that holds Bool, an abstract kind or a runtime-sized array"
-    pub const NO_LAYOUT: u8 = 25;
+    NoLayout,
 
     // memory: "on reading a slice whose length isn't the type's size"
-    pub const MEMORY_SIZE: u8 = 26;
+    MemorySize,
 }
 
-// The answer of an entry that writes a record: the record's length, the number of the refusal, or 8 with the count
-// wanted and the count given.
-#[derive(Clone, Copy)]
-pub enum Written {
-    Record(usize),
-    Refused(u8),
-    Miscount(usize, usize),
+impl Refusal {
+    // "Refusal numbers": they are written once, here.
+    pub fn number(self) -> u8
+        ensures { result ≡ number self }
+    {
+        match self {
+            Refusal::BadTarget => 1,
+            Refusal::BadArgument => 2,
+            Refusal::NoStage => 3,
+            Refusal::NotConstructible => 4,
+            Refusal::SeveralForScalar => 5,
+            Refusal::NotAScalar => 6,
+            Refusal::Mismatch => 7,
+            Refusal::Count {
+                wanted: _,
+                given: _,
+            } => 8,
+            Refusal::NoConversion => 9,
+            Refusal::NoCommonType => 10,
+            Refusal::ArgumentsNeeded => 11,
+            Refusal::VectorPart => 12,
+            Refusal::FloatsNeeded => 13,
+            Refusal::ColumnLength => 14,
+            Refusal::IntegerRange => 15,
+            Refusal::NotTyped => 16,
+            Refusal::FloatRange => 21,
+            Refusal::NoRoom => 22,
+            Refusal::TooManyJobs => 23,
+            Refusal::PartOutside => 24,
+            Refusal::NoLayout => 25,
+            Refusal::MemorySize => 26,
+        }
+    }
 }
 
 // An answer in numbers, as C takes it: the number of the refusal, or 0; the record's length, or the rank; and for the
@@ -110,46 +135,44 @@ impl Answer {
         }
     }
 
-    pub fn refused(n: u8) -> Answer
-        ensures { result ≡ numbers n 0 0 0 }
+    pub fn refused(refusal: Refusal) -> Answer
+        ensures { result ≡ refused_numbers refusal }
     {
+        if let Refusal::Count { wanted, given } = refusal {
+            return Answer {
+                refusal: refusal.number() as u64,
+                value: 0,
+                wanted: wanted as u64,
+                given: given as u64,
+            };
+        }
         Answer {
-            refusal: n as u64,
+            refusal: refusal.number() as u64,
             value: 0,
             wanted: 0,
             given: 0,
         }
     }
+}
 
-    fn miscounted(wanted: usize, given: usize) -> Answer
-        ensures { result ≡ numbers 8 0 wanted given }
-    {
-        Answer {
-            refusal: Refusal::COUNT as u64,
-            value: 0,
-            wanted: wanted as u64,
-            given: given as u64,
+// The answer of an entry that writes a record, in numbers.
+impl From<Result<usize, Refusal>> for Answer {
+    ghost from_gives = { λ r a. a ≡ in_numbers (λ n. n) (paper r) };
+
+    fn from(answer: Result<usize, Refusal>) -> Answer {
+        match answer {
+            Ok(n) => Answer::accepted(n as u64),
+            Err(refusal) => Answer::refused(refusal),
         }
     }
 }
 
-// The answer of an entry that writes a record, in numbers.
-pub fn in_numbers(answer: Written) -> Answer
-    ensures { result ≡ in_numbers (λ n. n) (paper answer) }
-{
-    match answer {
-        Written::Record(n) => Answer::accepted(n as u64),
-        Written::Refused(n) => Answer::refused(n),
-        Written::Miscount(w, g) => Answer::miscounted(w, g),
-    }
-}
-
 // The bytes of an accepted record, if the lent buffer takes them.
-pub fn hand(s: &[u8], out: &mut [u8]) -> Written
+pub fn hand(s: &[u8], out: &mut [u8]) -> Result<usize, Refusal>
     ensures { Told (handed (length out.old) s.now) out.old result out.new }
 {
     if s.len() > out.len() {
-        return Written::Refused(Refusal::NO_ROOM);
+        return Err(Refusal::NoRoom);
     }
-    Written::Record(record::copy(s, 0, s.len(), out, 0))
+    Ok(record::put_bytes(out, 0, s))
 }

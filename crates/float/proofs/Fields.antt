@@ -35,57 +35,50 @@ module _ (p emax : ℕ) (s : Bool) (t : ℕ) where
   ordinary zero g z = absurd (z refl)
   ordinary (suc f) g z = let q : suc f - 1 ≡ f = omega arith in rw (ne_eqb (suc f) (ones emax) g, q)
 
--- ---- `unpack`: f is the field, t the fraction and a the weight of the sign
+-- ---- `unpack`: f is the field, t the fraction and a the weight of the sign; i is the largest field
 
-module _ (p emax w x : ℕ) (L : Layout p emax w) {f : ℕ} (F : f ≡ x / hid p % 2 ^ w) where
+module _ {p emax w : ℕ} (L : Layout p emax w) (x : ℕ) {f i : ℕ} (F : f ≡ x / hid p % 2 ^ w) (I : i ≡ ones emax) where
   field_is : f ≡ x / hid p % (2 * emax + 2)
   field_is = F ∙ ap (λ (y : ℕ). x / hid p % y) L.power
 
   field_le : f ≤ 2 * emax + 1
   field_le = let g : 0 < 2 * emax + 2 = omega arith in omega (arith, field_is, mod-lt (x / hid p) g)
 
-  pub exponent_fits : {u : ℕ} → u ≡ unit p emax → f - 1 + u < 2 ^ 64
-  exponent_fits U = omega (arith, field_le, L.format)
-
   module _ {t a : ℕ} (T : t ≡ x % hid p) (A : a ≡ top p emax) where
     value_is : value p emax x ≡ of_fields p emax (leb a x) f t
     unfolding value
     value_is = rw (field_is, T, A)
 
-    pub at_inf : f ≡ 2 * emax + 1 → t ≡ 0 → Stands (value p emax x) (Inf (leb a x))
+    pub at_inf : f ≡ i → t ≡ 0 → Stands (value p emax x) (Inf (leb a x))
     at_inf g z = record {
-      means = value_is ∙ special p emax (leb a x) t f g
+      means = value_is ∙ special p emax (leb a x) t f (g ∙ I)
           ∙ ap (λ (b : Bool). cond b (inf (leb a x)) nan) (eq-eqb t 0 z);
       small = omega arith;
     }
 
-    pub at_nan : f ≡ 2 * emax + 1 → (t ≡ 0 → ⊥) → Stands (value p emax x) Nan
+    pub at_nan : f ≡ i → (t ≡ 0 → ⊥) → Stands (value p emax x) Nan
     at_nan g z = record {
-      means = value_is ∙ special p emax (leb a x) t f g
+      means = value_is ∙ special p emax (leb a x) t f (g ∙ I)
           ∙ ap (λ (b : Bool). cond b (inf (leb a x)) nan) (ne_eqb t 0 z);
       small = omega arith;
     }
 
     -- with u for the format's unit and h for the leading one
-    pub at_low : {u : ℕ} → u ≡ unit p emax → f ≡ 0 → Stands (value p emax x) (Fin (leb a x) t u)
-    at_low U g = record { means = rw U (value_is ∙ smallest p emax (leb a x) t f g); small = omega arith }
+    module _ {u : ℕ} (U : u ≡ unit p emax) where
+      pub at_low : f ≡ 0 → Stands (value p emax x) (Fin (leb a x) t u)
+      at_low g = record { means = rw U (value_is ∙ smallest p emax (leb a x) t f g); small = omega arith }
 
-    pub digits_fit : {h : ℕ} → h ≡ 1 * hid p → h + t < 2 ^ 64
-    digits_fit H = omega (arith, one-mul (hid p), mod-lt x (pow_pos (p - 1)), hid_le p L.format.few_digits)
-
-    pub at_fin : {u h : ℕ} → u ≡ unit p emax → h ≡ 1 * hid p → (f ≡ 2 * emax + 1 → ⊥) → (f ≡ 0 → ⊥)
-        → Stands (value p emax x) (Fin (leb a x) (h + t) (f - 1 + u))
-    at_fin U H g z = record {
-      means = rw (U, H, one-mul) (value_is ∙ ordinary p emax (leb a x) t f g z);
-      small = omega
-          (arith, field_le, L.format);
-    }
+      pub at_fin : {h : ℕ} → h ≡ 1 * hid p → (f ≡ i → ⊥) → (f ≡ 0 → ⊥) → Stands (value p emax x) (Fin (leb a x) (h + t) (f - 1 + u))
+      at_fin H g z = record {
+        means = rw (U, H, one-mul) (value_is ∙ ordinary p emax (leb a x) t f (rw I at g) z);
+        small = omega (arith, field_le, L.format);
+      }
 
   -- ---- `is_finite`: the largest field is that of the infinities and NaNs
 
-  pub finite_is : ltb f (2 * emax + 1) ≡ finite p emax x
+  pub finite_is : ltb f i ≡ finite p emax x
   unfolding finite
-  finite_is = rw rest (go (le_or_lt (ones emax) f))
+  finite_is = rw (I, rest) (go (le_or_lt (ones emax) f))
     where
       t : ℕ
       t = x % hid p
@@ -104,12 +97,9 @@ module _ (p emax w x : ℕ) (L : Layout p emax w) {f : ℕ} (F : f ≡ x / hid p
           let k : f * hid p + t < ones emax * hid p = omega (arith, mul-le-mul_right (hid p) h, mod-lt x (pow_pos (p - 1))) in
           lt-ltb f (ones emax) h ∙ sym (lt-ltb (f * hid p + t) (ones emax * hid p) k)
 
--- ---- `sign` and `assemble`
+-- ---- `assemble`
 
-pub sign_bits : (p emax : ℕ) {a : ℕ} {s : Bool} → s ≡ true → a ≡ (2 * emax + 2) * hid p → a ≡ cond s (top p emax) 0
-sign_bits p emax t e = rw (t, e) (mul_comm (2 * emax + 2) (hid p))
-
-module _ (p emax : ℕ) (F : Format p emax) where
+module _ {p emax : ℕ} (F : Format p emax) where
   top_le : top p emax ≤ 2 ^ 63
   top_le = le_trans (mul-le-mul_right (2 * emax + 2) (hid_le p F.few_digits)) (omega arith)
 
@@ -117,7 +107,7 @@ module _ (p emax : ℕ) (F : Format p emax) where
   sign_le true = omega arith
   sign_le false = omega arith
 
-  bits_lt : (v : Num) → bits p emax v < 2 * top p emax
+  pub bits_lt : (v : Num) → bits p emax v < 2 * top p emax
   unfolding bits packed
   bits_lt nan = omega (arith, top_is p emax, pow_pos (p - 1))
   bits_lt (inf s) = omega (arith, top_is p emax, pow_pos (p - 1), sign_le s)
@@ -125,10 +115,6 @@ module _ (p emax : ℕ) (F : Format p emax) where
 
   pub fits : {r : ℕ} (v : Num) → r ≡ bits p emax v → r < 2 ^ 64
   fits v e = omega (arith, bits_lt v, top_le)
-
-  -- the pattern, and its bound
-  pub bounded : {r : ℕ} (v : Num) → r ≡ bits p emax v → (r ≡ bits p emax v) × (r < 2 * top p emax)
-  bounded v e = (e, rw e (bits_lt v))
 
 module _ (p emax : ℕ) {a b : ℕ} where
   pub nan_bits_lem : a ≡ ones emax * hid p → b ≡ 1 * hid p → a + b / 2 ≡ bits p emax nan

@@ -5,13 +5,14 @@ use mathlib.Core.Bool.{Bool, true, false, not, cond}
 use Prim.Native.Nat.{ℕ, suc, ◌+◌, ◌-◌, ◌*◌, ◌/◌, ◌%◌, ◌^◌, ◌≤◌, ◌<◌, min}
 use native.Mathlib.Nat.{lt_of_lt_of_le, lt_of_not-le, not-le_of_lt, div-lt_iff_lt-mul, le-div_iff_mul-le, div-eq_of_lt, mod-eq_of_lt}
 use native.Mathlib.Nat.{add_comm, zero-add, add-mod_left, mul_assoc, mul-le-mul_right, lt_of_mul-lt-mul_right, mul-lt-mul_of_pos_right}
-use native.Mathlib.Nat.{zero-mul, zero-div, one-mul}
+use native.Mathlib.Nat.{zero-mul, one-mul}
 use native.Mathlib.Omega.{arith}
+use Rattle.std.proofs.lemmas.Nat.{one_shl}
 use lib.Dec.{leb, ltb, eqb}
 use lib.Pow.{pow_pos, pow_mono, pow-add}
 use borrow.Author.Tests.{le-leb, lt-leb, lt-ltb, le-ltb, eq-eqb, ne_eqb}
 use Rattle.meaning.specs.Floats.{nan, inf, fin, hid, ones, top, bits, finite, largest}
-use Rattle.laws.proofs.Digits.{le_or_lt, Format, top_is, raised, cut_down, cut_up}
+use Rattle.laws.proofs.Digits.{Format, le_or_lt, top_is, raised, cut_down, cut_up}
 use Rattle.laws.proofs.Rounding.{threshold, Right, right}
 
 -- ---- `cut`, with d for 1074
@@ -24,9 +25,6 @@ module _ (m e l d : ℕ) where
 
   pub some_left : {r : ℕ} → e ≤ d → r ≡ min (m / 2 ^ (d - e)) l → r ≡ min (m * 2 ^ e / 2 ^ d) l
   some_left h k = rw (cut_down m e d h) k
-
-  pub zero_left : m ≡ 0 → 0 ≡ min (m * 2 ^ e / 2 ^ d) l
-  zero_left h = let q : m * 2 ^ e / 2 ^ d ≡ 0 = rw (h, zero-mul, zero-div) in rw q (omega arith)
 
 -- `up` places more than 64 bits have
 pub far_up : (m l u : ℕ) → l < 2 ^ 64 → 0 < m → 63 < u → l < m * 2 ^ u
@@ -71,9 +69,6 @@ positive m e = scale 0 m e ∙ ap (λ (x : ℕ). ltb x (m * 2 ^ e)) (zero-mul (2
 -- ---- `beyond`
 
 module _ (m e l d : ℕ) where
-  pub zero_inside : m ≡ 0 → false ≡ ltb (l * 2 ^ d) (m * 2 ^ e)
-  zero_inside h = let z : m * 2 ^ e ≡ 0 = rw h (zero-mul (2 ^ e)) in sym (le-ltb (l * 2 ^ d) (m * 2 ^ e) (omega arith))
-
   module _ (h : d ≤ e) where
     at_up : ltb l (m * 2 ^ (e - d)) ≡ ltb (l * 2 ^ d) (m * 2 ^ e)
     at_up = rw (raised m e d h) (scale l (m * 2 ^ (e - d)) d)
@@ -110,14 +105,15 @@ module _ (m e l d : ℕ) where
 pub inside : (l n d : ℕ) {a : ℕ} {b : Bool} → a ≡ l → b ≡ ltb (a * 2 ^ d) n → not b ≡ leb n (l * 2 ^ d)
 inside l n d A B = rw (B, A) (not_less (l * 2 ^ d) n)
 
-pub largest_is : (p emax d : ℕ) {a : ℕ} → a ≡ 2 ^ p → (a - 1) * 2 ^ (emax + 1 - p + d) ≡ largest p emax * 2 ^ d
+pub largest_is : (p emax d : ℕ) → p < 64 → (1 * 2 ^ p % 2 ^ 64 - 1) * 2 ^ (emax + 1 - p + d) ≡ largest p emax * 2 ^ d
 unfolding largest
-largest_is p emax d e = rw e (ap (λ (x : ℕ). (2 ^ p - 1) * x) (pow-add 2 (emax + 1 - p) d)
+largest_is p emax d h =
+    rw (one_shl p 64 h) (ap (λ (x : ℕ). (2 ^ p - 1) * x) (pow-add 2 (emax + 1 - p) d)
     ∙ sym (mul_assoc (2 ^ p - 1) (2 ^ (emax + 1 - p)) (2 ^ d)))
 
 -- ---- `rounds_finite`: a number below the threshold, and no NaN and no infinity
 
-module _ (p emax : ℕ) (F : Format p emax) (P : (2 ≤ p) × (1 ≤ emax)) where
+module _ {p emax : ℕ} (L : Format p emax) (two : 2 ≤ p) (some : 1 ≤ emax) where
   pub nan_not : false ≡ finite p emax (bits p emax nan)
   unfolding finite bits
   nan_not =
@@ -136,20 +132,14 @@ module _ (p emax : ℕ) (F : Format p emax) (P : (2 ≤ p) × (1 ≤ emax)) wher
       rest true = add-mod_left (top p emax) (ones emax * hid p) ∙ mod-eq_of_lt l
       rest false = rw zero-add (mod-eq_of_lt l)
 
-  pub fin_below : (s : Bool) (n : ℕ) {a : ℕ} → a ≡ 2 ^ (p + 1) → ltb n ((a - 1) * 2 ^ (emax + 1074 - p)) ≡ finite p emax
+  pub fin_below : (s : Bool) (n : ℕ) → ltb n ((1 * 2 ^ (p + 1) % 2 ^ 64 - 1) * 2 ^ (emax + 1074 - p)) ≡ finite p emax
       (bits p emax (fin s n))
   unfolding threshold
-  fin_below s n e = rw (e, add_comm emax 1074) (go (le_or_lt (threshold p emax) n))
+  fin_below s n = rw (one_shl (p + 1) 64 (omega (arith, L)), add_comm emax 1074) (go (le_or_lt (threshold p emax) n))
     where
       R : Right p emax
-      R = right p emax F P.0 P.1
+      R = right p emax L two some
 
       go : (threshold p emax ≤ n) ⊎ (n < threshold p emax) → ltb n (threshold p emax) ≡ finite p emax (bits p emax (fin s n))
       go (inl h) = le-ltb n (threshold p emax) h ∙ sym (R.above_finite s n h)
       go (inr h) = lt-ltb n (threshold p emax) h ∙ sym (R.below_finite s n h)
-
--- ---- `toward`: the end of the range on the side of the sign
-
-pub end_le : {lo hi a : ℕ} (s : Bool) → lo ≤ 2 ^ 32 → hi < 2 ^ 32 → a ≤ cond s lo hi → a ≤ cond s (2 ^ 32) (2 ^ 32 - 1)
-end_le true l h e = omega arith
-end_le false l h e = omega arith

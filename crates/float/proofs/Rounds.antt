@@ -1,49 +1,26 @@
--- Laws on shifts and masks, and on rounding and packing as the code has the numbers: `k` places dropped, `half` and
--- `rest` of what is dropped.
+-- Laws on rounding and packing as the code has the numbers: `k` places dropped, `half` and `rest` of what is dropped.
 use mathlib.Core.Path.{◌≡◌, sym, ap, ◌∙◌}
 use mathlib.Core.Logic.{◌⊎◌, inl, inr}
 use Prim.Native.Nat.{ℕ, suc, ◌+◌, ◌-◌, ◌*◌, ◌/◌, ◌%◌, ◌^◌, ◌≤◌, ◌<◌, min}
-use native.Mathlib.Nat.{le_trans, le_of_eq, lt_of_lt_of_le, lt_of_not-le, eq-or-lt_of_le, mod-lt, div-eq_of_lt, mod-eq_of_lt}
+use native.Mathlib.Nat.{le_trans, le_of_eq, lt_of_not-le, eq-or-lt_of_le, mod-eq_of_lt}
 use native.Mathlib.Nat.{mul-le-mul_left, mul-le-mul_right, one-mul, zero-mul}
 use native.Mathlib.Omega.{arith}
-use lib.Pow.{pow_pos, pow-lt, pow_mono, shr_lt, shl_exact}
+use lib.Pow.{pow_pos, pow_mono}
 use lib.Bits.{bit_and, and_mask}
 use lib.Count.{count_leading_zeros, leading_top}
 use Rattle.meaning.specs.Floats.{closest, unit, hid, ones, dropped, packed}
-use Rattle.laws.proofs.Digits.{Format, closest_down, closest_tie, closest_up, closest_small, closest_one, half_twice, closest_shl}
+use Rattle.laws.proofs.Digits.{Format, closest_down, closest_tie, closest_up, closest_small, half_twice, closest_shl}
 use Rattle.laws.proofs.Digits.{size_shifted, kept_le, packed_zero}
-
--- ---- `power`, `low` and `placed`
-
-pub one_shl : (k : ℕ) → k < 64 → 1 * 2 ^ k % 2 ^ 64 ≡ 2 ^ k
-one_shl k h = rw one-mul (mod-eq_of_lt (pow-lt h))
-
-pub masked : (x k : ℕ) {a : ℕ} → a ≡ 2 ^ k → bit_and x (a - 1) ≡ x % 2 ^ k
-masked x k e = rw e (and_mask x k)
-
-pub placed_exact : (p f : ℕ) → p ≤ 53 → f < 4096 → f * 2 ^ (p - 1) % 2 ^ 64 ≡ f * hid p
-placed_exact p f h l = let g : 12 + (p - 1) ≤ 64 = omega arith in shl_exact 12 (p - 1) 64 l g
 
 -- ---- `round_shift`
 
 module _ (m k : ℕ) where
-  pub none : k ≡ 0 → m ≡ closest m (2 ^ k)
-  none e = rw e (sym (closest_one m))
-
   pub far : m < 2 ^ 64 → 64 < k → 0 ≡ closest m (2 ^ k)
   far l h = let g : 2 ^ 65 ≤ 2 ^ k = pow_mono h in sym (closest_small m (2 ^ k) (pow_pos k) (omega arith))
 
   module _ {half : ℕ} (p : 0 < k) (h : half ≡ 2 ^ (k - 1)) where
     twice : half * 2 ≡ 2 ^ k
     twice = rw h (half_twice k p)
-
-    -- all digits are dropped
-    module _ (l : m < 2 ^ k) where
-      pub edge_up : half < m → 1 ≡ closest m (2 ^ k)
-      edge_up g = sym (closest_up m (2 ^ k) (rw (mod-eq_of_lt l) (omega (arith, twice))) ∙ ap (λ (x : ℕ). x + 1) (div-eq_of_lt l))
-
-      pub edge_down : m ≤ half → 0 ≡ closest m (2 ^ k)
-      edge_down g = sym (closest_small m (2 ^ k) (pow_pos k) (omega (arith, twice)))
 
     -- with o for the last digit of the quotient, which is 1 where the quotient is odd
     module _ {rest : ℕ} (r : rest ≡ m % 2 ^ k) where
@@ -72,16 +49,6 @@ module _ (m k : ℕ) where
           go : (rest ≡ half) ⊎ (rest < half) → q ≡ closest m (2 ^ k)
           go (inl e) = omega (arith, odd, tie (sym e))
           go (inr l) = sym (closest_down m (2 ^ k) (omega (arith, twice)))
-
-      pub room_beside : k < 64 → rest + o < 2 ^ 64
-      room_beside l = omega (arith, mod-lt m (pow_pos k), odd, pow-lt l)
-
-  -- the quotient has room above it
-  pub room : m < 2 ^ 64 → 0 < k → m / 2 ^ k + 1 < 2 ^ 64
-  room h p =
-      let g : 64 ≤ 63 + k = omega arith in
-      let d : m / 2 ^ k < 2 ^ 63 = shr_lt 63 k (lt_of_lt_of_le h (pow_mono g)) in
-      omega arith
 
 -- ---- `scaled`
 

@@ -1,5 +1,6 @@
 -- What the parts of a number stand for, and what the code asks of a format.
 use Rattle.std.specs.Prelude.{◌≡◌, ℕ, ◌+◌, ◌*◌, ◌^◌, ◌≤◌, ◌<◌}
+use Rattle.std.proofs.Common.{rules}
 use Rattle.meaning.specs.Floats.{Num, nan, inf, fin}
 use Rattle.laws.proofs.Digits.{Format}
 use Rattle.float.specs.declared.Parts.{Parts}
@@ -26,3 +27,12 @@ pub record Layout (p emax w : ℕ) : Type 0 where
   pub format : Format p emax
   pub few_bits : w ≤ 11
   pub power : 2 ^ w ≡ 2 * emax + 2
+
+pub binary16_is : Layout 11 15 5
+binary16_is = search rules
+
+pub binary32_is : Layout 24 127 8
+binary32_is = search rules
+
+pub binary64_is : Layout 53 1023 11
+binary64_is = search rules

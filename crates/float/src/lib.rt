@@ -1,16 +1,110 @@
 // Conversions between floats and integers, worked out on bits: sign, exponent and fraction by shifts and masks, with no
 // float instruction and no signed number. This is what `as`, `to_f32`, `f16::from_f32` and their like do in the
-// source's ctor.rs and conv.rs. A format is given by three numbers: p, the digits of its significand with the leading
-// one; emax, its largest exponent; w, the bits of its exponent's field. binary16 is 11, 15, 5; binary32 is 24, 127, 8;
-// binary64 is 53, 1023, 11. A pattern is held in a u64.
+// source's ctor.rs and conv.rs. A format is a type with its numbers and their law. A pattern is held in a u64.
 #![tactic(auto)]
 
-ghost use Rattle.std.specs.Prelude.{◌≡◌, cond, ◌+◌, ◌-◌, ◌*◌, ◌/◌, ◌%◌, ◌^◌, ◌≤◌, ◌<◌, min, ltb};
-ghost use Rattle.meaning.specs.Floats.{binary16, binary32, binary64, hid, ones, top, closest, packed, bits, value, integer};
+ghost use Rattle.std.specs.Prelude.{◌≡◌, ℕ, false, cond, ◌+◌, ◌-◌, ◌*◌, ◌/◌, ◌%◌, ◌^◌, ◌≤◌, ◌<◌, min, ltb};
+ghost use Rattle.meaning.specs.Floats.{hid, ones, top, closest, packed, bits, value, integer};
 ghost use Rattle.meaning.specs.Floats as Floats;
 ghost use Rattle.meaning.specs.Scalars as Scalars;
-ghost use Rattle.laws.proofs.Digits.{Format};
-ghost use Rattle.float.specs.Taken.{meaning, exponent, Stands, Layout};
+ghost use Rattle.laws.proofs.Digits.{Format as IsFormat};
+ghost use Rattle.float.specs.Taken.{Layout, binary16_is, binary32_is, binary64_is, meaning, exponent, Stands};
+
+// A binary format by its numbers: the digits of its significand with the leading one, and its largest exponent.
+pub trait Format {
+    const DIGITS: u64;
+
+    const EMAX: u64;
+
+    ghost DIGITS: { ℕ };
+
+    ghost EMAX: { ℕ };
+
+    ghost laws: { IsFormat DIGITS EMAX };
+}
+
+// A format whose patterns are read: the bits of its exponent's field.
+pub trait Pattern: Format {
+    const EXPONENT_BITS: u64;
+
+    ghost EXPONENT_BITS: { ℕ };
+
+    ghost laws: { Layout Self.DIGITS Self.EMAX EXPONENT_BITS };
+}
+
+// The three formats of IEEE 754 here: of 16, 32 and 64 bits.
+pub struct Binary16;
+
+impl Format for Binary16 {
+    const DIGITS: u64 = 11;
+
+    const EMAX: u64 = 15;
+
+    ghost DIGITS = { 11 };
+
+    ghost EMAX = { 15 };
+
+    ghost laws = { binary16_is.format };
+}
+
+impl Pattern for Binary16 {
+    const EXPONENT_BITS: u64 = 5;
+
+    ghost EXPONENT_BITS = { 5 };
+
+    ghost laws = { binary16_is };
+}
+
+pub struct Binary32;
+
+impl Format for Binary32 {
+    const DIGITS: u64 = 24;
+
+    const EMAX: u64 = 127;
+
+    ghost DIGITS = { 24 };
+
+    ghost EMAX = { 127 };
+
+    ghost laws = { binary32_is.format };
+}
+
+impl Pattern for Binary32 {
+    const EXPONENT_BITS: u64 = 8;
+
+    ghost EXPONENT_BITS = { 8 };
+
+    ghost laws = { binary32_is };
+}
+
+pub struct Binary64;
+
+impl Format for Binary64 {
+    const DIGITS: u64 = 53;
+
+    const EMAX: u64 = 1023;
+
+    ghost DIGITS = { 53 };
+
+    ghost EMAX = { 1023 };
+
+    ghost laws = { binary64_is.format };
+}
+
+impl Pattern for Binary64 {
+    const EXPONENT_BITS: u64 = 11;
+
+    ghost EXPONENT_BITS = { 11 };
+
+    ghost laws = { binary64_is };
+}
+
+// A whole number by its sign and its magnitude.
+#[derive(Clone, Copy)]
+pub struct Whole {
+    pub negative: bool,
+    pub magnitude: u64,
+}
 
 // An exact number taken apart: Fin(s, m, e) is m * 2 ^ e * 2 ^ -1074, negative where s is true. Every float of the
 // three formats is one, and every integer of 64 bits.
@@ -23,124 +117,107 @@ pub enum Parts {
 
 // ---- bits
 
-// a - b, and 0 where b is larger.
-fn less(a: u64, b: u64) -> u64
-    ensures { result ≡ a - b }
-{
-    if a < b { 0 } else { a - b }
-}
-
-fn smaller(a: u64, b: u64) -> u64
-    ensures { result ≡ min a b }
-{
-    if a < b { a } else { b }
-}
-
-fn power(k: u64) -> u64
-    requires { k < 64 }
-    ensures { result ≡ 2 ^ k }
-{
-    1 << k
-}
-
 // The k low bits of x.
 fn low_bits(x: u64, k: u64) -> u64
     requires { k < 64 }
     ensures { result ≡ x % 2 ^ k }
 {
-    x & (power(k) - 1)
+    x & ((1 << k) - 1)
 }
 
 // f in the place of the exponent's field; from the field's range on it reaches the sign's place.
-fn placed(p: u64, f: u64) -> u64
-    requires { (1 ≤ p) × (p ≤ 53) × (f < 4096) }
-    ensures { result ≡ f * hid p }
+fn placed<F: Format>(f: u64) -> u64
+    requires { f < 4096 }
+    ensures { result ≡ f * hid F.DIGITS }
 {
-    f << (p - 1)
+    f << (F::DIGITS - 1)
 }
 
 // The exponent's field of a pattern.
-fn field(p: u64, w: u64, x: u64) -> u64
-    requires { (1 ≤ p) × (p ≤ 53) × (w ≤ 11) }
-    ensures { result ≡ x / hid p % 2 ^ w }
+fn field<F: Pattern>(x: u64) -> u64
+    ensures { result ≡ x / hid F.DIGITS % 2 ^ F.EXPONENT_BITS }
 {
-    low_bits(x >> (p - 1), w)
+    low_bits(x >> (F::DIGITS - 1), F::EXPONENT_BITS)
+}
+
+// The fraction of a pattern.
+fn fraction<F: Format>(x: u64) -> u64
+    ensures { result ≡ x % hid F.DIGITS }
+{
+    low_bits(x, F::DIGITS - 1)
+}
+
+// The largest field, that of the infinities and NaNs.
+fn largest_field<F: Format>() -> u64
+    ensures { result ≡ ones F.EMAX }
+{
+    2 * F::EMAX + 1
 }
 
 // The sign's bit.
-fn sign(p: u64, emax: u64, s: bool) -> u64
-    requires { Format p emax }
-    ensures { result ≡ cond s (top p emax) 0 }
+fn sign<F: Format>(s: bool) -> u64
+    ensures { result ≡ cond s (top F.DIGITS F.EMAX) 0 }
 {
-    if s { placed(p, 2 * emax + 2) } else { 0 }
+    if s { placed::<F>(2 * F::EMAX + 2) } else { 0 }
 }
 
 // The format's smallest positive value is 2 ^ unit, where 1 is 2 ^ -1074: binary64's own.
-fn unit(p: u64, emax: u64) -> u64
-    requires { Format p emax }
-    ensures { result ≡ Floats.unit p emax }
+fn unit<F: Format>() -> u64
+    ensures { result ≡ Floats.unit F.DIGITS F.EMAX }
 {
-    1076 - (emax + p)
+    1076 - (F::EMAX + F::DIGITS)
 }
 
 // The infinity's pattern: ones in the whole of the exponent's field.
-fn infinity(p: u64, emax: u64) -> u64
-    requires { Format p emax }
-    ensures { result ≡ ones emax * hid p }
+fn infinity<F: Format>() -> u64
+    ensures { result ≡ ones F.EMAX * hid F.DIGITS }
 {
-    placed(p, 2 * emax + 1)
+    placed::<F>(largest_field::<F>())
 }
 
 // ---- from a pattern or an integer to its parts
 
-// Any x is read; bits above the sign's count as the sign. The largest field is that of the infinities and NaNs, and the
-// field 0 has no leading one.
-fn unpack(p: u64, emax: u64, w: u64, x: u64) -> Parts
-    requires { Layout p emax w }
-    ensures { Stands (value p emax x) result }
+// The parts of a pattern. Any x is read; bits above the sign's count as the sign. The field 0 has no leading one.
+pub fn unpack<F: Pattern>(x: u64) -> Parts
+    ensures { Stands (value F.DIGITS F.EMAX x) result }
 {
-    let s = sign(p, emax, true) <= x;
-    let f = field(p, w, x);
-    let t = low_bits(x, p - 1);
-    if f == 2 * emax + 1 {
+    let s = sign::<F>(true) <= x;
+    let f = field::<F>(x);
+    let t = fraction::<F>(x);
+    if f == largest_field::<F>() {
         if t == 0 {
             return Parts::Inf(s);
         }
         return Parts::Nan;
     }
-    let u = unit(p, emax);
+    let u = unit::<F>();
     if f == 0 {
         return Parts::Fin(s, t, u);
     }
-    let m = placed(p, 1) + t;
+    let m = placed::<F>(1) + t;
     let e = f - 1 + u;
     Parts::Fin(s, m, e)
 }
 
-// The parts of a pattern of each format.
-pub fn f64_parts(x: u64) -> Parts
-    ensures { Stands (binary64 value x) result }
-{
-    unpack(53, 1023, 11, x)
+// The number m.
+impl From<u64> for Whole {
+    ghost from_gives = { λ m n. n ≡ record { negative = false; magnitude = m } };
+
+    fn from(m: u64) -> Whole {
+        Whole {
+            negative: false,
+            magnitude: m,
+        }
+    }
 }
 
-pub fn f32_parts(x: u64) -> Parts
-    ensures { Stands (binary32 value x) result }
-{
-    unpack(24, 127, 8, x)
-}
+// The parts of a whole number.
+impl From<Whole> for Parts {
+    ghost from_gives = { λ n v. Stands (integer n.negative n.magnitude) v };
 
-pub fn f16_parts(x: u64) -> Parts
-    ensures { Stands (binary16 value x) result }
-{
-    unpack(11, 15, 5, x)
-}
-
-// The whole number m, negative where s is true.
-pub fn int_parts(s: bool, m: u64) -> Parts
-    ensures { Stands (integer s m) result }
-{
-    Parts::Fin(s, m, 1074)
+    fn from(n: Whole) -> Parts {
+        Parts::Fin(n.negative, n.magnitude, 1074)
+    }
 }
 
 // ---- from parts to the nearest pattern
@@ -155,7 +232,7 @@ fn round_shift(m: u64, sh: u64) -> u64
     if sh > 64 {
         return 0;
     }
-    let half = power(sh - 1);
+    let half = 1 << (sh - 1);
     // every digit is dropped
     if sh == 64 {
         if m > half {
@@ -181,124 +258,65 @@ fn scaled(m: u64, e: u64, d: u64) -> u64
     }
 }
 
-// How many places the format drops of m * 2 ^ e: it keeps p digits, and none below its smallest value. The digits of m
-// * 2 ^ e are counted by the place of the leading one bit of an integer's magnitude, which its leading zeros tell; the
-// count gives the exponent and the shift.
-fn dropped(p: u64, emax: u64, m: u64, e: u64) -> u64
-    requires format { Format p emax }
-    requires bounds { (0 < m) × (e < 2100) }
-    ensures value { result ≡ Floats.dropped p emax (m * 2 ^ e) }
+// How many places the format drops of m * 2 ^ e: it keeps DIGITS digits, and none below its smallest value. The digits
+// of m * 2 ^ e are counted by the place of the leading one bit of an integer's magnitude, which its leading zeros tell;
+// the count gives the exponent and the shift.
+fn dropped<F: Format>(m: u64, e: u64) -> u64
+    requires { (0 < m) × (e < 2100) }
+    ensures value { result ≡ Floats.dropped F.DIGITS F.EMAX (m * 2 ^ e) }
     ensures upper_bound { result < 2164 }
 {
     let digits = 64 - (u64::leading_zeros(m) as u64) + e;
-    less(less(digits, unit(p, emax)), p)
+    digits.saturating_sub(unit::<F>()).saturating_sub(F::DIGITS)
 }
 
 // The pattern, without its sign, of the value of the format nearest to m * 2 ^ e * 2 ^ -1074. Of the digits kept the
 // leading one adds one to the field, and a carry goes into the field too, as it should; from the infinity's pattern on
 // it is the infinity.
-fn pack(p: u64, emax: u64, m: u64, e: u64) -> u64
-    requires format { Format p emax }
-    requires e_bound { e < 2100 }
-    ensures { result ≡ packed p emax (m * 2 ^ e) }
+fn pack<F: Format>(m: u64, e: u64) -> u64
+    requires { e < 2100 }
+    ensures { result ≡ packed F.DIGITS F.EMAX (m * 2 ^ e) }
 {
     if m == 0 {
         return 0;
     }
-    let k = dropped(p, emax, m, e);
-    let u = unit(p, emax);
+    let k = dropped::<F>(m, e);
+    let u = unit::<F>();
     let q = scaled(m, e, u + k);
-    smaller(placed(p, k) + q, infinity(p, emax))
+    (placed::<F>(k) + q).min(infinity::<F>())
 }
 
-// The pattern of the value nearest to a number, by one rounding; the NaN made has the sign clear and the fraction's highest bit alone.
-fn assemble(p: u64, emax: u64, v: Parts) -> u64
-    requires format { Format p emax }
-    requires v_bound { exponent v < 2100 }
-    ensures value { result ≡ bits p emax (meaning v) }
-    ensures upper_bound { result < 2 * top p emax }
+// The pattern of the value nearest to a number, by one rounding; the NaN made has the sign clear and the fraction's
+// highest bit alone.
+fn assemble<F: Format>(v: Parts) -> u64
+    requires { exponent v < 2100 }
+    ensures value { result ≡ bits F.DIGITS F.EMAX (meaning v) }
+    ensures upper_bound { result < 2 * top F.DIGITS F.EMAX }
 {
     match v {
-        Parts::Nan => infinity(p, emax) + (placed(p, 1) >> 1),
-        Parts::Inf(s) => sign(p, emax, s) + infinity(p, emax),
-        Parts::Fin(s, m, e) => sign(p, emax, s) + pack(p, emax, m, e),
+        Parts::Nan => infinity::<F>() + (placed::<F>(1) >> 1),
+        Parts::Inf(s) => sign::<F>(s) + infinity::<F>(),
+        Parts::Fin(s, m, e) => sign::<F>(s) + pack::<F>(m, e),
     }
 }
 
 // ---- from pattern to pattern, and from integer to pattern
 
-// From the format sp, semax, sw to the format p, emax.
-fn convert(sp: u64, semax: u64, sw: u64, p: u64, emax: u64, x: u64) -> u64
-    requires layout { Layout sp semax sw }
-    requires format { Format p emax }
-    ensures value { result ≡ bits p emax (value sp semax x) }
-    ensures upper_bound { result < 2 * top p emax }
+// A pattern of the format S to the nearest of the format T: `n as f32` of an f64; `f16::from_f64`, with one rounding;
+// `f16::from_f32`; `f16::to_f32`, which is exact.
+pub fn convert<S: Pattern, T: Format>(x: u64) -> u64
+    ensures value { result ≡ bits T.DIGITS T.EMAX (value S.DIGITS S.EMAX x) }
+    ensures upper_bound { result < 2 * top T.DIGITS T.EMAX }
 {
-    assemble(p, emax, unpack(sp, semax, sw, x))
+    assemble::<T>(unpack::<S>(x))
 }
 
-// `n as f32` of an f64.
-pub fn f64_to_f32(x: u64) -> u64
-    ensures value { result ≡ binary32 bits (binary64 value x) }
-    ensures upper_bound { result < 2 ^ 32 }
+// A whole number to the format: `to_f64` of an i64; `n as f32` of an i64, i32 or u32; `f16::from_i64`.
+pub fn of_int<F: Format>(n: Whole) -> u64
+    ensures value { result ≡ bits F.DIGITS F.EMAX (integer n.negative n.magnitude) }
+    ensures upper_bound { result < 2 * top F.DIGITS F.EMAX }
 {
-    convert(53, 1023, 11, 24, 127, x)
-}
-
-// `f16::from_f64`, with one rounding.
-pub fn f64_to_f16(x: u64) -> u64
-    ensures value { result ≡ binary16 bits (binary64 value x) }
-    ensures upper_bound { result < 2 ^ 16 }
-{
-    convert(53, 1023, 11, 11, 15, x)
-}
-
-// `f16::from_f32`.
-pub fn f32_to_f16(x: u64) -> u64
-    ensures value { result ≡ binary16 bits (binary32 value x) }
-    ensures upper_bound { result < 2 ^ 16 }
-{
-    convert(24, 127, 8, 11, 15, x)
-}
-
-// `f16::to_f32`, which is exact.
-pub fn f16_to_f32(x: u64) -> u64
-    ensures value { result ≡ binary32 bits (binary16 value x) }
-    ensures upper_bound { result < 2 ^ 32 }
-{
-    convert(11, 15, 5, 24, 127, x)
-}
-
-// An integer, its magnitude m and its sign s, to the format p, emax.
-fn of_int(p: u64, emax: u64, s: bool, m: u64) -> u64
-    requires { Format p emax }
-    ensures value { result ≡ bits p emax (integer s m) }
-    ensures upper_bound { result < 2 * top p emax }
-{
-    assemble(p, emax, int_parts(s, m))
-}
-
-// `to_f64` of an i64.
-pub fn int_to_f64(s: bool, m: u64) -> u64
-    ensures { result ≡ binary64 bits (integer s m) }
-{
-    of_int(53, 1023, s, m)
-}
-
-// `n as f32` of an i64, i32 or u32.
-pub fn int_to_f32(s: bool, m: u64) -> u64
-    ensures value { result ≡ binary32 bits (integer s m) }
-    ensures upper_bound { result < 2 ^ 32 }
-{
-    of_int(24, 127, s, m)
-}
-
-// `f16::from_i64`.
-pub fn int_to_f16(s: bool, m: u64) -> u64
-    ensures value { result ≡ binary16 bits (integer s m) }
-    ensures upper_bound { result < 2 ^ 16 }
-{
-    of_int(11, 15, s, m)
+    assemble::<F>(Parts::from(n))
 }
 
 // ---- from parts to integers
@@ -319,7 +337,7 @@ fn cut(m: u64, e: u64, limit: u64) -> u64
         if down > 63 {
             return 0;
         }
-        return smaller(m >> down, limit);
+        return (m >> down).min(limit);
     }
     let up = e - 1074;
     if m == 0 {
@@ -347,7 +365,8 @@ fn wrap(s: bool, n: u64) -> u64
     }
 }
 
-// `x as i32` and `x as u32` of a float, and held between -lo and hi besides: toward zero, to the nearest end of the range, and 0 for a NaN.
+// `x as i32` and `x as u32` of a float, and held between -lo and hi besides: toward zero, to the nearest end of the
+// range, and 0 for a NaN.
 pub fn toward(lo: u64, hi: u64, v: Parts) -> u64
     requires { (lo ≤ 2 ^ 32) × (hi < 2 ^ 32) }
     ensures value { result ≡ Scalars.toward lo hi (meaning v) }
@@ -407,38 +426,35 @@ pub fn nonzero(v: Parts) -> bool
 }
 
 // Whether a pattern is a finite number's: no infinity's and no NaN's.
-pub fn is_finite(p: u64, emax: u64, w: u64, b: u64) -> bool
-    requires { Layout p emax w }
-    ensures { result ≡ Floats.finite p emax b }
+pub fn is_finite<F: Pattern>(b: u64) -> bool
+    ensures { result ≡ Floats.finite F.DIGITS F.EMAX b }
 {
-    field(p, w, b) < 2 * emax + 1
+    field::<F>(b) < largest_field::<F>()
 }
 
-// Whether a number is past the format's largest finite value, on either side, or no number: `!range.contains(n)`. That value is p ones with
-// emax + 1 - p places below them.
-pub fn outside(p: u64, emax: u64, v: Parts) -> bool
-    requires format { Format p emax }
-    requires p_bound { p ≤ emax + 1 }
-    ensures { result ≡ Floats.outside p emax (meaning v) }
+// Whether a number is past the format's largest finite value, on either side, or no number: `!range.contains(n)`. That
+// value is DIGITS ones with EMAX + 1 - DIGITS places below them.
+pub fn outside<F: Format>(v: Parts) -> bool
+    requires { F.DIGITS ≤ F.EMAX + 1 }
+    ensures { result ≡ Floats.outside F.DIGITS F.EMAX (meaning v) }
 {
     match v {
         Parts::Nan => true,
         Parts::Inf(_) => true,
-        Parts::Fin(_, m, e) => beyond(m, e, power(p) - 1, emax + 1 - p + 1074),
+        Parts::Fin(_, m, e) => beyond(m, e, (1 << F::DIGITS) - 1, F::EMAX + 1 - F::DIGITS + 1074),
     }
 }
 
 // Whether the nearest value of the format is finite, told without making its pattern. It is finite below the threshold,
 // half a last place past the largest value: at the threshold there is a tie, and the even neighbour is the infinity.
-// The threshold is p + 1 ones with emax - p places below them.
-pub fn rounds_finite(p: u64, emax: u64, v: Parts) -> bool
-    requires format { Format p emax }
-    requires least { (2 ≤ p) × (1 ≤ emax) }
-    ensures { result ≡ Floats.finite p emax (bits p emax (meaning v)) }
+// The threshold is DIGITS + 1 ones with EMAX - DIGITS places below them.
+pub fn rounds_finite<F: Format>(v: Parts) -> bool
+    requires { (2 ≤ F.DIGITS) × (1 ≤ F.EMAX) }
+    ensures { result ≡ Floats.finite F.DIGITS F.EMAX (bits F.DIGITS F.EMAX (meaning v)) }
 {
     match v {
         Parts::Nan => false,
         Parts::Inf(_) => false,
-        Parts::Fin(_, m, e) => beyond(power(p + 1) - 1, emax + 1074 - p, m, e),
+        Parts::Fin(_, m, e) => beyond((1 << (F::DIGITS + 1)) - 1, F::EMAX + 1074 - F::DIGITS, m, e),
     }
 }

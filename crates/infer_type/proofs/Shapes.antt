@@ -1,6 +1,6 @@
 -- The rules for untemplated shapes, by what the code asks.
 use mathlib.Core.Path.{◌≡◌, refl, sym, ap, ◌∙◌, subst}
-use mathlib.Core.Option.{Option, none, some}
+use mathlib.Core.Option.{Option as Maybe, none, some}
 use mathlib.Core.List.{List, [], ◌∷◌, map}
 use mathlib.Core.Bool.{Bool, true, false}
 use Prim.Native.Nat.{ℕ}
@@ -9,62 +9,46 @@ use lib.ListN.{length}
 use borrow.Author.Tests.{eq-eqb, ne_eqb}
 use Rattle.meaning.specs.Kinds.{Kind, aint, kind_no}
 use Rattle.meaning.specs.Trees.{Ty, Ts, Tv, Tm, Ta, Tu, Qv, Qm, inner}
-use Rattle.meaning.specs.Answers.{Result, ok, no, miscount, or_no, need_count, all, map_some, ◌>>=◌, ◌>>◌}
+use Rattle.meaning.specs.Answers.{Result, ok, no, miscount, or_no, need, need_count, all, map_some, ◌>>=◌, ◌>>◌}
 use Rattle.meaning.specs.Convert.{common, float_kind}
-use Rattle.meaning.specs.Build.{lit_kind, mat_shape}
+use Rattle.meaning.specs.Build.{lit_kind, mat_shape, same_size}
 use Rattle.meaning.specs.Typing.{typed, type_qv_one, type_qv, type_qm, type_qm_one, part_of, total}
 use Rattle.ty.specs.Heads.{head_of}
-use Rattle.ty.specs.declared.Head.TheVariants.{Scalar, Vector, Matrix, Array, Struct}
-use Rattle.ty.proofs.Heads.{scalar_is, vector_is, matrix_is, array_is, struct_is}
+use Rattle.ty.specs.declared.Head.TheVariants.{Scalar, Vector}
+use Rattle.ty.proofs.Heads.{scalar_is, vector_is}
 use Rattle.ty.specs.Stands.{Whole}
 use Rattle.ty.proofs.Bottom.{KindIs}
 use Rattle.shape.specs.TypeRows.{TypeRow}
 use Rattle.shape.specs.Kinds.{found_of}
-use Rattle.shape.specs.declared.Found.{Found}
-use Rattle.shape.specs.declared.Found.TheVariants.{Kind as Is, Nothing}
-use Rattle.shape.proofs.KindsFound.{found_kind, found_none}
-use Rattle.arg_types.specs.Given.{LikeIs}
 use Rattle.arg_types.specs.Components.{Gives, Passes, common_kind_from, PartKinds}
-use Rattle.arg_types.specs.declared.Single.TheVariants.{Like, Unlike, Other}
 use Rattle.arg_types.proofs.Given.{MoreGiven}
 use Rattle.arg_types.proofs.KindsLeft.{split_kinds, kinds_common}
-use Rattle.arg_types.proofs.Singles.{size_refl}
 use Rattle.infer_type.specs.Shapes.{Names, type_float}
-use Rattle.infer_type.specs.declared.Named.{Named}
-use Rattle.infer_type.specs.declared.Named.TheVariants.{Of, Refused, Miscount}
+use Rattle.error.specs.declared.Refusal.TheVariants.{NoCommonType}
+use Rattle.std.specs.Option.{ok_or}
+use Rattle.std.specs.declared.option.Option.{Option}
+use Rattle.infer_type.specs.Shapes.{Named}
+use Rattle.std.specs.declared.result.Result.TheVariants.{Ok, Err}
 
 pub names_as : {x y : Result Ty} (make : Kind → Ty) (r : Named) → x ≡ y → Names make y r → Names make x r
-names_as make (Of k) e h = (h.0, h.1, e ∙ h.2)
-names_as make (Refused n) e h = e ∙ h
-names_as make (Miscount w g) e h = e ∙ h
+names_as make (Ok k) e h = (h.0, h.1, e ∙ h.2)
+names_as make (Err n) e h = e ∙ h
 
 -- ---- `Qv` of one argument
 
 module _ {args : List ℕ} {a : Ty} (w : Whole args a) (n : ℕ) where
-  pub one_scalar : {k : ℕ} → Scalar k ≡ head_of a → Names (Tv n) (type_qv_one n a) (Of k)
+  pub one_scalar : {k : ℕ} → Scalar k ≡ head_of a → Names (Tv n) (type_qv_one n a) (Ok k)
   unfolding type_qv_one
   one_scalar h = let x = scalar_is w h in (x.kind, x.no, ap (type_qv_one n) x.is)
 
   module _ {m k : ℕ} (h : Vector m k ≡ head_of a) where
-    pub one_vector : m ≡ n → Names (Tv n) (type_qv_one n a) (Of k)
+    pub one_vector : m ≡ n → Names (Tv n) (type_qv_one n a) (Ok k)
     unfolding type_qv_one
     one_vector q = let x = vector_is w h in (x.kind, x.no, ap (type_qv_one n) x.is ∙ (rw (eq-eqb m n q)))
 
     pub one_other : (m ≡ n → ⊥) → type_qv_one n a ≡ no 12
     unfolding type_qv_one
     one_other q = ap (type_qv_one n) (vector_is w h).is ∙ (rw (ne_eqb m n q))
-
-  pub one_matrix : {c r k : ℕ} → Matrix c r k ≡ head_of a → type_qv_one n a ≡ no 12
-  unfolding type_qv_one
-  one_matrix h = ap (type_qv_one n) (matrix_is w h).is
-
-  pub one_array : {m : ℕ} → Array m ≡ head_of a → type_qv_one n a ≡ no 12
-  unfolding type_qv_one
-  one_array h = ap (type_qv_one n) (array_is w h).is
-
-  pub one_struct : {i m : ℕ} → Struct i m ≡ head_of a → type_qv_one n a ≡ no 12
-  unfolding type_qv_one
-  one_struct h = ap (type_qv_one n) (struct_is w h).is
 
 -- ---- `Qv` of several
 
@@ -98,23 +82,26 @@ module _ (n : ℕ) (l : List Ty) where
     qv_miscount q = by_parts x.parts ∙ (rw (ne_eqb (total l) n q))
 
     module _ (q : total l ≡ n) where
-      by_kinds : {o : Option Kind} → common_kind_from (some k) ks ≡ o → type_qv n l ≡
+      by_kinds : {o : Maybe Kind} → common_kind_from (some k) ks ≡ o → type_qv n l ≡
           (or_no 10 (map_some Ts o) >>= λ t. or_no 10 (lit_kind t) >>= λ k. ok (Tv n k))
       unfolding kinds_name common map_some
       by_kinds e = by_parts x.parts ∙ (rw (eq-eqb (total l) n q)
-          (ap (λ (o : Option Ty). or_no 10 o >>= λ t. or_no 10 (lit_kind t) >>= λ k. ok (Tv n k))
+          (ap (λ (o : Maybe Ty). or_no 10 o >>= λ t. or_no 10 (lit_kind t) >>= λ k. ok (Tv n k))
           (kinds_common (some k) ks ∙ ap (map_some Ts) e)))
 
-      pub qv_found : {c : ℕ} {r : Found} → r ≡ found_of (common_kind_from (some k) ks) → r ≡ Is c → Names (Tv n) (type_qv n l) (Of c)
-      unfolding map_some lit_kind
-      qv_found p h = let y = found_kind (common_kind_from (some k) ks) (sym h ∙ p) in (y.kind, y.no, by_kinds y.is)
-
-      pub qv_nothing : {r : Found} → r ≡ found_of (common_kind_from (some k) ks) → r ≡ Nothing → type_qv n l ≡ no 10
-      unfolding map_some
-      qv_nothing p h = by_kinds (found_none (common_kind_from (some k) ks) (sym h ∙ p))
+      -- the common kind, or none
+      pub qv_named : {r : Option ℕ} → r ≡ found_of (common_kind_from (some k) ks)
+          → Names (Tv n) (type_qv n l) (ok_or r NoCommonType)
+      unfolding found_of map_some lit_kind
+      qv_named p = rw p (go (common_kind_from (some k) ks) refl)
+        where
+          go : (o : Maybe Kind) → common_kind_from (some k) ks ≡ o
+              → Names (Tv n) (type_qv n l) (ok_or (found_of o) NoCommonType)
+          go none e = by_kinds e
+          go (some j) e = (j, refl, by_kinds e)
 
 module _ (n : ℕ) {l : List Ty} where
-  pub qv_none : l ≡ [] → Names (Tv n) (typed (Qv n) l) (Of 1)
+  pub qv_none : l ≡ [] → Names (Tv n) (typed (Qv n) l) (Ok 1)
   unfolding typed kind_no
   qv_none e = (aint, refl, rw e)
 
@@ -127,16 +114,6 @@ module _ (n : ℕ) {l : List Ty} where
   qv_more x = ap (typed (Qv n)) x.is ∙ ap (type_qv n) (sym x.is)
 
 -- ---- `Qm` by the common type
-
-module _ (make : Kind → Ty) (j : Kind) (y : Result (Unit {0})) where
-  pub by_right : {k : ℕ} → k ≡ kind_no j → y ≡ ok tt → Names make (y >> ok (make j)) (Of k)
-  by_right e h = (j, e, ap (λ (z : Result (Unit {0})). z >> ok (make j)) h)
-
-  pub by_refused : {n : ℕ} → y ≡ no n → (y >> ok (make j)) ≡ no n
-  by_refused h = ap (λ (z : Result (Unit {0})). z >> ok (make j)) h
-
-  pub by_miscount : {w g : ℕ} → y ≡ miscount w g → (y >> ok (make j)) ≡ miscount w g
-  by_miscount h = ap (λ (z : Result (Unit {0})). z >> ok (make j)) h
 
 module _ (c r n : ℕ) (t : Ty) where
   pub float_named : {k : ℕ} (x : KindIs k (float_kind (inner t))) → type_float c r n t ≡ (mat_shape c r t n >> ok (Tm c r x.kind))
@@ -158,20 +135,18 @@ module _ (c r : ℕ) (l : List Ty) where
 
 -- ---- `Qm` of one matrix
 
-module _ (c r : ℕ) (t : Ty) where
-  pub qm_like : {k : ℕ} → LikeIs c r t (Like k) → Names (Tm c r) (type_qm_one c r t) (Of k)
+module _ (c r : ℕ) {t : Ty} where
+  -- of whichever size
+  pub qm_sized : {a b : ℕ} {k : Kind} → t ≡ Tm a b k → {s : Bool} → same_size c r a b ≡ s
+      → type_qm_one c r t ≡ (need s 7 >> ok (Tm a b k))
   unfolding type_qm_one
-  qm_like x = (x.0, x.1, ap (type_qm_one c r) x.2 ∙ (rw (size_refl c r)))
+  qm_sized e q = rw (e, q)
 
-  pub qm_unlike : LikeIs c r t Unlike → type_qm_one c r t ≡ no 7
-  unfolding type_qm_one
-  qm_unlike x = ap (type_qm_one c r) x.3 ∙ (rw x.4)
-
-  pub qm_other : LikeIs c r t Other → type_qm_one c r t ≡ type_qm c r (t ∷ [])
+  pub qm_other : ((a b : ℕ) (k : Kind) → t ≡ Tm a b k → ⊥) → type_qm_one c r t ≡ type_qm c r (t ∷ [])
   unfolding type_qm_one
   qm_other f = go t f
     where
-      go : (u : Ty) → LikeIs c r u Other → type_qm_one c r u ≡ type_qm c r (u ∷ [])
+      go : (u : Ty) → ((a b : ℕ) (k : Kind) → u ≡ Tm a b k → ⊥) → type_qm_one c r u ≡ type_qm c r (u ∷ [])
       go (Ts k) f = refl
       go (Tv n k) f = refl
       go (Tm a b k) f = absurd (f a b k refl)

@@ -2,22 +2,23 @@
 use Rattle.std.specs.Prelude.{◌≡◌, List, [], ◌∷◌, ℕ}
 use Rattle.meaning.specs.Kinds.{Kind, kind_no}
 use Rattle.meaning.specs.Trees.{Ty, Tv, Tm, Qv, Qm, inner}
-use Rattle.meaning.specs.Answers.{Result, ok, no, miscount, or_no, ◌>>=◌, ◌>>◌}
+use Rattle.meaning.specs.Answers.{Result, ok, or_no, ◌>>=◌, ◌>>◌}
 use Rattle.meaning.specs.Convert.{float_kind}
 use Rattle.meaning.specs.Build.{mat_shape}
 use Rattle.meaning.specs.Typing.{typed, type_qv_one, type_qv, type_qm, type_qm_one}
 use Rattle.ty.specs.Stands.{Stands, Whole}
-use Rattle.shape.specs.Matrices.{shape_of}
-use Rattle.shape.specs.declared.Shape.{Shape}
 use Rattle.arg_types.specs.Given.{Given}
-use Rattle.infer_type.specs.declared.Named.{Named}
-use Rattle.infer_type.specs.declared.Named.TheVariants.{Of, Refused, Miscount}
+use Rattle.error.specs.Refusals.{refusal, Refusing}
+use Rattle.std.specs.declared.result.Result.TheVariants.{Ok, Err}
+
+-- what is answered: the number of the kind of the type that is named, or a refusal
+abbrev pub Named : Type 0
+Named = Refusing ℕ
 
 -- the rule x names the type that `make` gives for the kind whose number is answered, or the refusal
 abbrev pub Names : (Kind → Ty) → Result Ty → Named → Type 0
-Names make x (Of k) = (j : Kind) × (k ≡ kind_no j) × (x ≡ ok (make j))
-Names make x (Refused n) = x ≡ no n
-Names make x (Miscount w g) = x ≡ miscount w g
+Names make x (Ok k) = (j : Kind) × (k ≡ kind_no j) × (x ≡ ok (make j))
+Names make x (Err y) = x ≡ refusal y
 
 -- ---- `Qv`
 
@@ -35,11 +36,6 @@ VectorNames n args count r = (l : List Ty) → Given args count l → Names (Tv 
 -- from the common type t on: floats (13), then the shape
 unfoldable pub type_float : ℕ → ℕ → ℕ → Ty → Result Ty
 type_float c r n t = or_no 13 (float_kind (inner t)) >>= λ k. mat_shape c r t n >> ok (Tm c r k)
-
--- where the shape of the arguments is right, the type is named by the kind whose number k is
-abbrev pub NamedBy : ℕ → Shape → Named → Type 0
-NamedBy k x r = (make : Kind → Ty) (j : Kind) (t : Ty) (y : Result (Unit {0})) → k ≡ kind_no j → x ≡ shape_of t y
-    → Names make (y >> ok (make j)) r
 
 abbrev pub FloatNames : ℕ → ℕ → List ℕ → ℕ → Named → Type 0
 FloatNames c r ty n x = (t : Ty) (e : ℕ) → Stands 15 ty 0 t e → Names (Tm c r) (type_float c r n t) x

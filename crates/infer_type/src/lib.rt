@@ -4,69 +4,56 @@
 ghost use Rattle.std.specs.Prelude.{◌≤◌};
 ghost use Rattle.ty.specs.Stands.{Standing, OneType};
 ghost use Rattle.arg_types.specs.Given.{SomeGiven};
-ghost use Rattle.infer_type.specs.Shapes.{VectorOneNames, VectorPartsName, VectorNames, NamedBy, FloatNames, MatrixPartsName};
+ghost use Rattle.infer_type.specs.Shapes.{VectorOneNames, VectorPartsName, VectorNames, FloatNames, MatrixPartsName};
 ghost use Rattle.infer_type.specs.Shapes.{MatrixOneNames, MatrixNames};
 
-use arg_types::Single;
-use common_type::Common;
 use error::Refusal;
 use kind::Scalar;
-use shape::{Found, Shape};
 use ty::{Head, Limit};
 
-// What the rule of a shape says of the arguments: the kind of the type that it names, or the refusal.
-#[derive(Clone, Copy)]
-pub enum Named {
-    Of(u8),
-    Refused(u8),
-    Miscount(usize, usize),
-}
-
 // `Qv` of one argument: "so is a single argument that `Qv` can't take" (12).
-fn name_vector_one(n: u8, args: &[u8]) -> Named
+fn name_vector_one(n: u8, args: &[u8]) -> Result<u8, Refusal>
     requires { OneType args.now }
     ensures { VectorOneNames n args.now result }
 {
     match ty::head_at(args, 0, Limit::DEPTH) {
-        Head::Scalar(k) => Named::Of(k),
+        Head::Scalar(k) => Ok(k),
         Head::Vector(m, k) => {
             if m == n {
-                return Named::Of(k);
+                return Ok(k);
             }
-            Named::Refused(Refusal::VECTOR_PART)
+            Err(Refusal::VectorPart)
         }
-        Head::Matrix(_, _, _) => Named::Refused(Refusal::VECTOR_PART),
-        Head::Array(_) => Named::Refused(Refusal::VECTOR_PART),
-        Head::Struct(_, _) => Named::Refused(Refusal::VECTOR_PART),
+        _ => Err(Refusal::VectorPart),
     }
 }
 
 // `Qv` of several: parts (12), then their number (8), then their common kind (10).
-fn name_vector_parts(n: u8, args: &[u8], count: usize) -> Named
+fn name_vector_parts(n: u8, args: &[u8], count: usize) -> Result<u8, Refusal>
     requires some_given { SomeGiven args.now count }
     requires several { 2 ≤ count }
     ensures { VectorPartsName n args.now count result }
 {
     if !arg_types::are_parts(args) {
-        return Named::Refused(Refusal::VECTOR_PART);
+        return Err(Refusal::VectorPart);
     }
     let sum = arg_types::total(args);
     if sum != n as usize {
-        return Named::Miscount(n as usize, count);
+        return Err(Refusal::Count {
+            wanted: n as usize,
+            given: count,
+        });
     }
-    match arg_types::common_kind(args) {
-        Found::Kind(k) => Named::Of(k),
-        Found::Nothing => Named::Refused(Refusal::NO_COMMON_TYPE),
-    }
+    arg_types::common_kind(args).ok_or(Refusal::NoCommonType)
 }
 
 // `Qv`; without arguments it is of AbstractInt.
-pub fn name_vector(n: u8, args: &[u8], count: usize) -> Named
+pub fn name_vector(n: u8, args: &[u8], count: usize) -> Result<u8, Refusal>
     requires { SomeGiven args.now count }
     ensures { VectorNames n args.now count result }
 {
     if count == 0 {
-        return Named::Of(Scalar::ABSTRACT_INT);
+        return Ok(Scalar::ABSTRACT_INT);
     }
     if count == 1 {
         return name_vector_one(n, args);
@@ -74,60 +61,45 @@ pub fn name_vector(n: u8, args: &[u8], count: usize) -> Named
     name_vector_parts(n, args, count)
 }
 
-// A type of the kind k, if the shape of the arguments is right.
-fn name_by(k: u8, x: Shape) -> Named
-    ensures { NamedBy k x result }
-{
-    match x {
-        Shape::Scalars => Named::Of(k),
-        Shape::Columns => Named::Of(k),
-        Shape::Refused(n) => Named::Refused(n),
-        Shape::Miscount(w, g) => Named::Miscount(w, g),
-    }
-}
-
 // `Qm` by the common type of its arguments, at the front of ty: floats (13), then the shape.
-fn name_matrix_from(c: u8, r: u8, ty: &[u8], n: usize) -> Named
+fn name_matrix_from(c: u8, r: u8, ty: &[u8], n: usize) -> Result<u8, Refusal>
     requires { Standing 15 ty.now 0 }
     ensures { FloatNames c r ty.now n result }
 {
-    match shape::float_inner(ty) {
-        Found::Kind(k) => name_by(k, shape::matrix_shape(c, r, ty, n)),
-        Found::Nothing => Named::Refused(Refusal::FLOATS_NEEDED),
-    }
+    let k = shape::float_inner(ty).ok_or(Refusal::FloatsNeeded)?;
+    shape::matrix_shape(c, r, ty, n)?;
+    Ok(k)
 }
 
 // `Qm` of several (10 before the rest), or of one that is no matrix.
-fn name_matrix_parts(c: u8, r: u8, args: &[u8], n: usize) -> Named
+fn name_matrix_parts(c: u8, r: u8, args: &[u8], n: usize) -> Result<u8, Refusal>
     requires { SomeGiven args.now n }
     ensures { MatrixPartsName c r args.now n result }
 {
     let mut ty = [0u8; Limit::TYPE_BYTES];
-    match common_type::common_type(args, &mut ty) {
-        Common::Of(_) => name_matrix_from(c, r, &ty, n),
-        Common::Never => Named::Refused(Refusal::NO_COMMON_TYPE),
-    }
+    common_type::common_type(args, &mut ty).ok_or(Refusal::NoCommonType)?;
+    name_matrix_from(c, r, &ty, n)
 }
 
 // `Qm` of one argument: "one matrix of equal size kept (7)".
-fn name_matrix_one(c: u8, r: u8, args: &[u8]) -> Named
+fn name_matrix_one(c: u8, r: u8, args: &[u8]) -> Result<u8, Refusal>
     requires { SomeGiven args.now 1 }
     ensures { MatrixOneNames c r args.now result }
 {
-    match arg_types::one_matrix(c, r, args) {
-        Single::Like(k) => Named::Of(k),
-        Single::Unlike => Named::Refused(Refusal::MISMATCH),
-        Single::Other => name_matrix_parts(c, r, args, 1),
+    match ty::head_at(args, 0, Limit::DEPTH) {
+        Head::Matrix(a, b, k) if a == c && b == r => Ok(k),
+        Head::Matrix(_, _, _) => Err(Refusal::Mismatch),
+        _ => name_matrix_parts(c, r, args, 1),
     }
 }
 
 // `Qm`; 11 without arguments.
-pub fn name_matrix(c: u8, r: u8, args: &[u8], n: usize) -> Named
+pub fn name_matrix(c: u8, r: u8, args: &[u8], n: usize) -> Result<u8, Refusal>
     requires { SomeGiven args.now n }
     ensures { MatrixNames c r args.now n result }
 {
     if n == 0 {
-        return Named::Refused(Refusal::ARGUMENTS_NEEDED);
+        return Err(Refusal::ArgumentsNeeded);
     }
     if n == 1 {
         return name_matrix_one(c, r, args);

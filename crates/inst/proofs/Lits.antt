@@ -1,13 +1,14 @@
 -- Literals at a place.
 use mathlib.Core.Path.{◌≡◌, refl, sym, ap, ◌∙◌, subst}
 use mathlib.Core.List.{List, [], ◌∷◌, ◌++◌}
-use Prim.Native.Nat.{ℕ, zero, suc, ◌+◌, ◌≤◌, ◌<◌}
+use Prim.Native.Nat.{ℕ, ◌+◌, ◌≤◌}
 use native.Mathlib.Omega.{arith}
+use native.Mathlib.Nat.{add-zero}
 use lib.Dec.{T, leb, ltb, le→leb, leb→le, ltb→lt, lt→ltb}
 use lib.ListN.{length, get_or, drop}
 use Rattle.meaning.specs.Kinds.{Kind, bool, aint, afloat, i32, u32, f32, f16, kind_no, pay_width, payloads}
 use Rattle.meaning.specs.Trees.{Ts, Val, Vs, Vv, Vm, Va, Vu, type_of, lit_len, val_len}
-use Rattle.meaning.specs.Records.{le, lit_bytes, val_bytes, good_lit, shaped_val}
+use Rattle.meaning.specs.Records.{‘V’, ‘s’, le, lit_bytes, val_bytes, good_lit, shaped_val}
 use Rattle.laws.proofs.BackVal.{lit_fits_lem}
 use Rattle.laws.proofs.Length.{val_len_lem}
 use Rattle.kind.specs.Ends.{of_kind, numbered}
@@ -63,28 +64,38 @@ most_is u32 = refl
 most_is f32 = refl
 most_is f16 = refl
 
-module _ (s : List ℕ) (at : ℕ) (j : Kind) (k w m : ℕ) (i : KindIs j k w m) where
-  pub lit_byte : (n e : ℕ) → Fits s at (Ts j) e → n < 3 → get_or s (at + n) 0 ≡ get_or (86 ∷ 115 ∷ k ∷ []) n 0
-  unfolding lit_bytes
-  lit_byte zero e f h = at_of s _ at (lit_at s at j e f).here 0
-  lit_byte (suc zero) e f h = at_of s _ at (lit_at s at j e f).here 1
-  lit_byte (suc (suc zero)) e f h = at_of s _ at (lit_at s at j e f).here 2 ∙ sym i.no
-  lit_byte (suc (suc (suc n))) e f h = absurd (omega arith)
+-- the mark and the kind of a literal, and room for the payload
+pub record LitFront (s : List ℕ) (at k w : ℕ) : Type 0 where
+  pub room : at + (3 + w) ≤ length s
+  pub first : get_or s at 0 ≡ ‘V’
+  pub second : get_or s (at + 1) 0 ≡ ‘s’
+  pub kind : get_or s (at + 2) 0 ≡ k
 
-  -- behind the mark and the kind, the payload decides
-  pub literal_decides : at + (3 + w) ≤ length s → get_or s at 0 ≡ 86 → get_or s (at + 1) 0 ≡ 115 → get_or s (at + 2) 0 ≡ k → Bytes s → (p : ℕ)
-      → p ≡ number_at s (at + 3) w
+module _ {s : List ℕ} {at : ℕ} {j : Kind} {k w m : ℕ} (i : KindIs j k w m) where
+  pub literal_front : {e : ℕ} → Fits s at (Ts j) e → LitFront s at k w
+  unfolding lit_bytes val_len lit_len
+  literal_front {e} f =
+      let x = (lit_at s at j e f).here in
+      record {
+        room = omega (arith, f.within, fits_end s at (Ts j) e f, i.wide);
+        first = rw add-zero at (at_of s _ at x 0);
+        second = at_of s _ at x 1;
+        kind = at_of s _ at x 2 ∙ sym i.no;
+      }
+
+  -- behind the front the payload decides
+  pub literal_decides : LitFront s at k w → Bytes s → (p : ℕ) → p ≡ number_at s (at + 3) w
       → Decides (Fits s at (Ts j) (at + (3 + w))) (leb p m)
   unfolding lit_bytes val_bytes type_of shaped_val good_lit val_len lit_len
-  literal_decides r a b c y p n =
+  literal_decides r y p n =
       decides_as (leb p m) (decides_test {r = leb p m} refl)
       (λ h.
       let l = leb→le p m h in
       let g : T (ltb p (payloads j)) = lt→ltb p (payloads j) (omega (arith, most_is j, i.top)) in
       let q : at + 3 + w ≡ at + (3 + w) = omega arith in
       let x : drop at s ≡ lit_bytes j p ++ drop (at + (3 + w)) s = cc
-      (view3 s at (omega arith), a, b, c, i.no, i.wide, rw (sym n) at (number_here s (at + 3) w y (omega arith)), q) in
-      record { value = Vs j p; here = x; size = rw (val_len_lem (Vs j p) g, i.wide); within = r; shaped = g; type = refl })
+      (view3 s at (omega (arith, r.room)), r.first, r.second, r.kind, i.no, i.wide, rw (sym n) at (number_here s (at + 3) w y (omega (arith, r.room))), q) in
+      record { value = Vs j p; here = x; size = rw (val_len_lem (Vs j p) g, i.wide); within = r.room; shaped = g; type = refl })
       (λ f.
       let t = lit_at s at j (at + (3 + w)) f in
       let v : drop (at + 3) s ≡ le (pay_width j) t.payload ++ drop (at + (3 + w)) s = past s (86 ∷ 115 ∷ kind_no j ∷ []) _ at t.here in
@@ -93,9 +104,9 @@ module _ (s : List ℕ) (at : ℕ) (j : Kind) (k w m : ℕ) (i : KindIs j k w m)
       le→leb p m (omega (arith, ltb→lt t.payload (payloads j) t.good, most_is j, i.top)))
 
 -- what the readers know of a kind
-pub kind_is : (j : Kind) (k w m : ℕ) → k ≡ kind_no j → w ≡ width_of k → m ≡ numbered most k → KindIs j k w m
+pub kind_is : {j : Kind} {k w m : ℕ} → k ≡ kind_no j → w ≡ width_of k → m ≡ numbered most k → KindIs j k w m
 unfolding of_kind
-kind_is j k w m p z q = record {
+kind_is {j} p z q = record {
   no = p;
   wide = z ∙ (ap width_of p ∙ width_of_lem j);
   top = q
@@ -103,9 +114,9 @@ kind_is j k w m p z q = record {
 }
 
 -- a literal ends in one place only
-pub literal_none : (s : List ℕ) (at : ℕ) (j : Kind) (k w m : ℕ) → KindIs j k w m → (Fits s at (Ts j) (at + (3 + w)) → ⊥) → (e : ℕ)
+pub literal_none : {s : List ℕ} {at : ℕ} {j : Kind} {k w m : ℕ} → KindIs j k w m → (Fits s at (Ts j) (at + (3 + w)) → ⊥) → (e : ℕ)
     → Fits s at (Ts j) e → ⊥
 unfolding val_len lit_len
-literal_none s at j k w m i f e x =
+literal_none {s} {at} {j} {w = w} i f e x =
     let z : e ≡ at + (3 + w) = fits_end s at (Ts j) e x ∙ ap (λ (n : ℕ). at + (3 + n)) (sym i.wide) in
     f (subst (Fits s at (Ts j)) z x)

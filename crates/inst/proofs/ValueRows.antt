@@ -1,7 +1,6 @@
 -- Values that stand in a row, each of a type that is known.
 use mathlib.Core.Path.{◌≡◌, refl, sym, ap, ap₂, ◌∙◌}
 use mathlib.Core.List.{List, ◌++◌, append_assoc}
-use mathlib.Core.Bool.{Bool, true, false}
 use Prim.Native.Nat.{ℕ, zero, suc, ◌+◌, ◌-◌, ◌≤◌, ◌<◌}
 use native.Mathlib.Omega.{arith}
 use native.Mathlib.Nat.{add-zero}
@@ -13,39 +12,31 @@ use Rattle.laws.proofs.Back.{and_l, and_r}
 use Rattle.laws.proofs.Same.{both}
 use Rattle.laws.proofs.Length.{val_len_lem}
 use Rattle.ty.specs.TypeFronts.{Same}
-use Rattle.record.specs.Bytes.{Decides}
-use Rattle.record.proofs.Starts.{decided, refuted}
 use Rattle.record.proofs.Places.{past}
 use Rattle.inst.specs.Values.{Fits, FitsAll, copies}
-use Rattle.inst.specs.Reading.{Told, Says, pair_of}
-use Rattle.inst.specs.declared.ValueEnd.{ValueEnd}
-use Rattle.inst.specs.declared.ValueEnd.TheVariants.{At, Bad}
-use Rattle.inst.specs.declared.Derived.{Derived}
-use Rattle.inst.specs.declared.Derived.TheVariants.{Ends, Unfit}
+use Rattle.inst.specs.Reading.{Told, Says}
+use Rattle.std.specs.declared.option.Option.{Option}
+use Rattle.std.specs.declared.option.Option.TheVariants.{None, Some}
 
 -- ---- answers
 
 -- where the ends are the same, so is the answer
-pub told_as : {X Y : ℕ → Type 0} → Same X Y → (r : ValueEnd) → Told X r → Told Y r
-told_as f (At e) h = (f e).0 h
-told_as f Bad h = λ e y. h e ((f e).1 y)
+pub told_as : {X Y : ℕ → Type 0} → Same X Y → (r : Option ℕ) → Told X r → Told Y r
+told_as f (Some e) h = (f e).0 h
+told_as f None h = λ e y. h e ((f e).1 y)
 
-pub says_as : {X Y P Q : ℕ → Type 0} → Same X Y → ((q : ℕ) → P q → Q q) → (r : Derived) → Says X P r → Says Y Q r
-says_as f g (Ends e q) h = ((f e).0 h.0, g q h.1)
-says_as f g Unfit h = λ e y. h e ((f e).1 y)
+pub says_as : {X Y P Q : ℕ → Type 0} → Same X Y → ((q : ℕ) → P q → Q q) → (r : Option (ℕ × ℕ)) → Says X P r → Says Y Q r
+says_as f g (Some (e, q)) h = ((f e).0 h.0, g q h.1)
+says_as f g None h = λ e y. h e ((f e).1 y)
 
 -- the answer of a reader of values, with a type's end
-pub says_pair : (X Q : ℕ → Type 0) (v : ValueEnd) (q : ℕ) → Told X v → Q q → Says X Q (pair_of v q)
-unfolding pair_of
-says_pair X Q (At e) q h i = (h, i)
-says_pair X Q Bad q h i = h
+abbrev pub pair_of : Option ℕ → ℕ → Option (ℕ × ℕ)
+pair_of (Some e) q = Some (e, q)
+pair_of None q = None
 
--- a test that was asked for its opposite
-pub holds : {P : Type 0} (r : Bool) → Decides P r → r ≡ true → P
-holds r h q = decided h q
-
-pub fails : {P : Type 0} (r : Bool) → Decides P r → r ≡ false → P → ⊥
-fails r h q = refuted h q
+pub says_pair : (X Q : ℕ → Type 0) (v : Option ℕ) (q : ℕ) → Told X v → Q q → Says X Q (pair_of v q)
+says_pair X Q (Some e) q h i = (h, i)
+says_pair X Q None q h i = h
 
 -- ---- the types of n equal parts
 
@@ -145,12 +136,14 @@ module _ (s : List ℕ) (at : ℕ) where
 
 -- ---- n values of one type: the step of a loop
 
-module _ (s : List ℕ) (at n : ℕ) (t : Ty) (h : 0 < n) where
-  pub each_on : (mid : ℕ) → Fits s at t mid → Same (FitsAll s mid (copies (n - 1) t)) (FitsAll s at (copies n t))
-  each_on mid v = rw (copies_more n t h) (one_on s at t (copies (n - 1) t) mid v)
+module _ {s : List ℕ} {at n : ℕ} {t : Ty} where
+  pub each_on : (m : ℕ) → n ≡ m + 1 → {mid : ℕ} → Fits s at t mid → Same (FitsAll s mid (copies m t)) (FitsAll s at (copies n t))
+  each_on m h {mid} v =
+      let k : n - 1 ≡ m = omega arith in
+      rw (copies_more n t (let z : 0 < n = omega arith in z), k) (one_on s at t (copies m t) mid v)
 
-  pub each_none : ((e : ℕ) → Fits s at t e → ⊥) → (e : ℕ) → FitsAll s at (copies n t) e → ⊥
-  each_none = rw (copies_more n t h) (none_on s at t (copies (n - 1) t))
+  pub each_none : 0 < n → ((e : ℕ) → Fits s at t e → ⊥) → (e : ℕ) → FitsAll s at (copies n t) e → ⊥
+  each_none h = rw (copies_more n t h) (none_on s at t (copies (n - 1) t))
 
 pub each_end : (s : List ℕ) (at n : ℕ) (t : Ty) → n ≡ 0 → at ≤ length s → FitsAll s at (copies n t) at
 each_end s at n t h i = rw (copies_none n t h) (nil_fits s at i)

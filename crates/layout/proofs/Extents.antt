@@ -2,105 +2,92 @@
 use mathlib.Core.Path.{◌≡◌, refl, sym, ap, ◌∙◌}
 use mathlib.Core.List.{List}
 use mathlib.Core.Bool.{Bool, true, false, cond}
-use Prim.Native.Nat.{ℕ, ◌+◌, ◌-◌, ◌*◌, ◌/◌, ◌%◌, ◌^◌, ◌≤◌, ◌<◌}
+use Prim.Native.Nat.{ℕ, ◌+◌, ◌-◌, ◌*◌, ◌%◌, ◌^◌, ◌≤◌, ◌<◌}
 use native.Mathlib.Omega.{arith}
-use native.Mathlib.Nat.{mod-lt, mul-le-mul}
+use native.Mathlib.Nat.{mul-le-mul}
 use lib.Dec.{ltb, eqb}
 use lib.ListN.{set}
 use borrow.Author.Tests.{lt-ltb, le-ltb, ltb-true, ltb-false}
+use Rattle.std.specs.Option.{SomeIff}
+use Rattle.std.specs.declared.option.Option.{Option}
+use Rattle.std.specs.declared.option.Option.TheVariants.{None, Some}
+use Rattle.std.proofs.lemmas.Option.{none-some, cond_some}
 use Rattle.meaning.specs.Kinds.{Kind, kind_no}
 use Rattle.meaning.specs.Layout.{scalar_size, vec_align, round_up}
 use Rattle.record.specs.Literals.{Sized}
 use Rattle.memory.specs.Sizes.{size_no, Align}
 use Rattle.memory.proofs.Sizes.{size_of_lem}
-use Rattle.memory.proofs.RoundUp.{align_some, align_small, up_more, up_same, up_missing}
-use Rattle.ty.proofs.Lens.{times_fits, times_long, times_more}
-use Rattle.layout.specs.Extents.{Aligned, pick_extent, extent_of, pick_past, past_of, ScalarExtent, VectorExtent, Times, Rounds}
+use Rattle.memory.proofs.RoundUp.{align_small, up_more, up_same, up_missing}
+use Rattle.layout.specs.Extents.{extent, extent_of, past_of, ScalarExtent, VectorExtent, Rounds}
 use Rattle.layout.specs.declared.Extent.{Extent}
-use Rattle.layout.specs.declared.Extent.TheVariants.{Is, TooLong}
-use Rattle.layout.specs.declared.Past.TheVariants.{At, TooLong as PastLong}
-
--- the greatest size that 64 bits hold
-abbrev pub most : ℕ
-most = 18446744073709551615
 
 -- ---- exact to 64 bits
 
-pub extent_is : (e n a : ℕ) → n < 2 ^ 64 → extent_of e n a ≡ Is e n a
+cond_none : {A : Type 0} (b : Bool) (x : A) → None ≡ cond b (Some x) None → b ≡ false
+cond_none true x h = absurd (none-some x h)
+cond_none false x h = refl
+
+pub extent_is : (e n a : ℕ) → n < 2 ^ 64 → extent_of e n a ≡ Some (extent e n a)
 unfolding extent_of
 extent_is e n a h = rw (lt-ltb n (2 ^ 64) h)
 
-pub extent_long : (e n a : ℕ) → 2 ^ 64 ≤ n → extent_of e n a ≡ TooLong
+pub extent_long : (e n a : ℕ) → 2 ^ 64 ≤ n → extent_of e n a ≡ None
 unfolding extent_of
 extent_long e n a h = rw (le-ltb n (2 ^ 64) h)
 
 -- what an answer says
-pub record SizeIs (e₁ n₁ a₁ e n a : ℕ) : Type 0 where
-  pub end : e₁ ≡ e
-  pub size : n₁ ≡ n
-  pub align : a₁ ≡ a
+pub record SizeIs (x : Extent) (e n a : ℕ) : Type 0 where
+  pub is : x ≡ extent e n a
+  pub end : x.end ≡ e
+  pub size : x.size ≡ n
+  pub align : x.align ≡ a
   pub fits : n < 2 ^ 64
 
-pub is_extent : {e₁ n₁ a₁ : ℕ} (e n a : ℕ) → Is e₁ n₁ a₁ ≡ extent_of e n a → SizeIs e₁ n₁ a₁ e n a
+pub is_extent : {x : Extent} (e n a : ℕ) → Some x ≡ extent_of e n a → SizeIs x e n a
 unfolding extent_of
-is_extent {e₁} {n₁} {a₁} e n a h = go (ltb n (2 ^ 64)) refl h
-  where
-    go : (b : Bool) → ltb n (2 ^ 64) ≡ b → Is e₁ n₁ a₁ ≡ pick_extent b (Is e n a) TooLong → SizeIs e₁ n₁ a₁ e n a
-    go true q x = record { end = (cc); size = (cc); align = (cc); fits = ltb-true n (2 ^ 64) q }
-    go false q x = absurd (let z : ◌≡◌ {A = ℕ} 0 1 = cc in omega arith)
+is_extent e n a h =
+    let y = cond_some (ltb n (2 ^ 64)) (extent e n a) _ (sym h) in
+    rw (← y.1) (record { is = refl; end = refl; size = refl; align = refl; fits = ltb-true n (2 ^ 64) y.0 })
 
-pub long_extent : (e n a : ℕ) → TooLong ≡ extent_of e n a → 2 ^ 64 ≤ n
+pub long_extent : (e n a : ℕ) → None ≡ extent_of e n a → 2 ^ 64 ≤ n
 unfolding extent_of
-long_extent e n a h = go (ltb n (2 ^ 64)) refl h
-  where
-    go : (b : Bool) → ltb n (2 ^ 64) ≡ b → TooLong ≡ pick_extent b (Is e n a) TooLong → 2 ^ 64 ≤ n
-    go true q x = absurd (let z : ◌≡◌ {A = ℕ} 0 1 = cc in omega arith)
-    go false q x = ltb-false n (2 ^ 64) q
+long_extent e n a h = ltb-false n (2 ^ 64) (cond_none (ltb n (2 ^ 64)) (extent e n a) h)
 
-pub aligned_is : (x : Extent) (e n a : ℕ) → Align a → x ≡ extent_of e n a → Aligned x
-aligned_is (Is e₁ n₁ a₁) e n a h q = rw (is_extent e n a q).align h
-aligned_is TooLong e n a h q = tt
-
-pub is_aligned : {x : Extent} {e n a : ℕ} → x ≡ Is e n a → Aligned x → Align a
-is_aligned q h = rw q at h
-
-pub past_is : (n : ℕ) → n < 2 ^ 64 → At n ≡ past_of n
+pub past_is : (n : ℕ) → n < 2 ^ 64 → Some n ≡ past_of n
 unfolding past_of
 past_is n h = rw (lt-ltb n (2 ^ 64) h)
 
-pub past_long : (n : ℕ) → 2 ^ 64 ≤ n → PastLong ≡ past_of n
+pub past_long : (n : ℕ) → 2 ^ 64 ≤ n → None ≡ past_of n
 unfolding past_of
 past_long n h = rw (le-ltb n (2 ^ 64) h)
 
-pub is_past : (p n : ℕ) → At p ≡ past_of n → (p ≡ n) × (n < 2 ^ 64)
+pub is_past : (p n : ℕ) → Some p ≡ past_of n → (p ≡ n) × (n < 2 ^ 64)
 unfolding past_of
-is_past p n h = go (ltb n (2 ^ 64)) refl h
-  where
-    go : (b : Bool) → ltb n (2 ^ 64) ≡ b → At p ≡ pick_past b (At n) PastLong → (p ≡ n) × (n < 2 ^ 64)
-    go true q x = ((cc), ltb-true n (2 ^ 64) q)
-    go false q x = absurd (let z : ◌≡◌ {A = ℕ} 0 1 = cc in omega arith)
+is_past p n h = let y = cond_some (ltb n (2 ^ 64)) n p (sym h) in (sym y.1, ltb-true n (2 ^ 64) y.0)
 
-pub long_past : (n : ℕ) → PastLong ≡ past_of n → 2 ^ 64 ≤ n
+pub long_past : (n : ℕ) → None ≡ past_of n → 2 ^ 64 ≤ n
 unfolding past_of
-long_past n h = go (ltb n (2 ^ 64)) refl h
-  where
-    go : (b : Bool) → ltb n (2 ^ 64) ≡ b → PastLong ≡ pick_past b (At n) PastLong → 2 ^ 64 ≤ n
-    go true q x = absurd (let z : ◌≡◌ {A = ℕ} 0 1 = cc in omega arith)
-    go false q x = ltb-false n (2 ^ 64) q
+long_past n h = ltb-false n (2 ^ 64) (cond_none (ltb n (2 ^ 64)) n h)
+
+-- a sum that is checked
+pub past_sum : (o : Option ℕ) (n : ℕ) → SomeIff o (n < 2 ^ 64) n → o ≡ past_of n
+past_sum None n h = past_long n (omega (arith, h))
+past_sum (Some x) n h = rw h.1 (past_is n h.0)
 
 -- ---- scalars and vectors, by the kind's number
 
 sized : {k s : ℕ} (j : Kind) → s ≡ size_no k → k ≡ kind_no j → s ≡ scalar_size j
 sized j h q = h ∙ (ap size_no q ∙ size_of_lem j)
 
-pub scalar_extent : (e : ℕ) {k s : ℕ} → s ≡ size_no k → ScalarExtent e k (Is e s s)
+pub scalar_extent : (e : ℕ) {k s : ℕ} → s ≡ size_no k → ScalarExtent e k (extent e s s)
 scalar_extent e h j q = rw (sized j h q)
 
 pub vector_align : (n : ℕ) {k s : ℕ} (w : ℕ) → cond (eqb n 2) 2 4 ≡ w → w ≤ 4 → s ≡ size_no k → s ≤ 4 → Sized k (vec_align n) 16 (w * s)
 unfolding vec_align
 vector_align n w h m p q = record { is = λ j r. rw (h, sized j p r); small = mul-le-mul m q }
 
-pub vector_extent : (e : ℕ) {n k w s a : ℕ} → w ≡ n → s ≡ size_no k → Sized k (vec_align n) 16 a → VectorExtent e n k (Is e (w * s) a)
+pub vector_extent : (e : ℕ) {n k w s a : ℕ} → w ≡ n → s ≡ size_no k → Sized k (vec_align n) 16 a
+    → VectorExtent e n k (extent e (w * s) a)
 vector_extent e g h z j q = rw (g, sized j h q, z.is j q)
 
 pub vector_fits : {w s : ℕ} → w < 256 → s ≤ 4 → w * s ≤ 1020
@@ -109,12 +96,6 @@ vector_fits g h = mul-le-mul (let x : _ ≤ 255 = omega arith in x) h
 -- ---- up to the next multiple
 
 module _ {a w : ℕ} (h : Align a) (e : w ≡ a) (n : ℕ) where
-  pub gap_some : 0 < w
-  gap_some = omega (arith, align_some a h)
-
-  pub gap_within : n % w ≤ w
-  gap_within = let l = mod-lt n gap_some in omega arith
-
   pub gap_none : n % w ≡ 0 → (0 ≡ round_up a n - n) × (0 < 16)
   gap_none q = (omega (arith, up_same a h n (rw e at q)), omega arith)
 
@@ -125,58 +106,26 @@ module _ {a w : ℕ} (h : Align a) (e : w ≡ a) (n : ℕ) where
       let s = align_small a h in
       rw e (omega arith, omega arith)
 
--- ---- n times the size
-
-module _ {x : Extent} {n : ℕ} (g : 1 ≤ n) where
-  module _ {e₁ s a₁ : ℕ} (q : x ≡ Is e₁ s a₁) where
-    pub times_over : most / n < s → Times n x TooLong
-    times_over l e m a h =
-        let i = is_extent e m a (sym q ∙ h) in
-        sym (extent_long e (n * m) a (omega (arith, times_long most g l, ap (λ (z : ℕ). n * z) i.size)))
-
-    pub times_is : s ≤ most / n → Times n x (Is e₁ (n * s) a₁)
-    times_is l e m a h =
-        let i = is_extent e m a (sym q ∙ h) in
-        rw (i.end, i.size, i.align) (sym (extent_is e (n * m) a (omega (arith, times_fits most g l, ap (λ (z : ℕ). n * z) i.size))))
-
-  pub times_too : x ≡ TooLong → Times n x TooLong
-  times_too q e m a h = sym (extent_long e (n * m) a (omega (arith, times_more n m g, long_extent e m a (sym q ∙ h))))
-
 -- ---- the size rounded up
 
-module _ {x : Extent} {at : ℕ} {pads : List ℕ} where
-  module _ {e₁ s a₁ g w : ℕ} (q : x ≡ Is e₁ s a₁) (p : g ≡ round_up a₁ s - s) (v : w ≡ g) where
-    pub rounds_over : most - s < w → Rounds x at pads TooLong pads
-    rounds_over l e m a b k =
-        let i = is_extent e m a (sym q ∙ k) in
-        let u = up_more a b m in
-        let p' : g ≡ round_up a m - m = rw (i.align, i.size) at p in
-        let j = i.size in
-        record { is = sym (extent_long e (round_up a m) a (omega arith)); table = λ f. absurd (omega arith) }
+module _ (x : Extent) (h : Align x.align) {g w : ℕ} (p : g ≡ round_up x.align x.size - x.size) (v : w ≡ g) where
+  comes : x.size + w ≡ round_up x.align x.size
+  comes = let u = up_more x.align h x.size in omega arith
 
-    pub rounds_is : w ≤ most - s → Rounds x at pads (Is e₁ (s + w) a₁) (set pads at g)
-    rounds_is l e m a b k =
-        let i = is_extent e m a (sym q ∙ k) in
-        let u = up_more a b m in
-        let p' : g ≡ round_up a m - m = rw (i.align, i.size) at p in
-        let j : s + w ≡ round_up a m = omega (arith, i.size) in
-        let f = i.fits in
-        record { is = rw (i.end, i.align, j) (sym (extent_is e (round_up a m) a (omega (arith, i.size)))); table = λ f. rw p' }
+  module _ {at : ℕ} {pads : List ℕ} where
+    pub rounds_over : 2 ^ 64 ≤ x.size + w → Rounds x at pads None pads
+    rounds_over l =
+        let i = comes in
+        record {
+          is = sym (extent_long x.end (round_up x.align x.size) x.align (omega arith));
+          table = λ f. absurd (omega arith);
+        }
 
-  pub rounds_too : x ≡ TooLong → Rounds x at pads TooLong pads
-  rounds_too q e m a b k =
-      let l = long_extent e m a (sym q ∙ k) in
-      let u = up_more a b m in
-      record { is = sym (extent_long e (round_up a m) a (omega arith)); table = λ f. absurd (omega arith) }
-
--- ---- where a member ends
-
-module _ (end g s : ℕ) {w : ℕ} (v : w ≡ g) where
-  pub past_first : most - end < w → PastLong ≡ past_of (end + g + s)
-  past_first l = past_long (end + g + s) (omega arith)
-
-  pub past_second : w ≤ most - end → most - (end + w) < s → PastLong ≡ past_of (end + g + s)
-  past_second k l = past_long (end + g + s) (omega arith)
-
-  pub past_at : end + w + s ≤ most → At (end + w + s) ≡ past_of (end + g + s)
-  past_at l = rw v (past_is (end + g + s) (omega arith))
+    pub rounds_is : {n : ℕ} → n ≡ x.size + w → x.size + w < 2 ^ 64
+        → Rounds x at pads (Some (extent x.end n x.align)) (set pads at g)
+    rounds_is i l =
+        let j = comes in
+        record {
+          is = rw (i ∙ j) (sym (extent_is x.end (round_up x.align x.size) x.align (omega arith)));
+          table = λ f. rw p;
+        }

@@ -1,86 +1,63 @@
 // WGSL's memory layout of a type, from its record: whether it has one, its size and its alignment, and the padding inside it.
 #![tactic(auto)]
 
-ghost use Rattle.std.specs.Prelude.{◌≡◌, ◌+◌, ◌-◌, ◌*◌, ◌≤◌, ◌<◌, max, length};
+ghost use Rattle.std.specs.Prelude.{◌≡◌, ◌+◌, ◌-◌, ◌*◌, ◌≤◌, ◌<◌, length};
 ghost use Rattle.meaning.specs.Trees.{Ty};
 ghost use Rattle.meaning.specs.Layout.{has_layout, vec_align, round_up, layout_answer};
 ghost use Rattle.ty.specs.Stands.{Whole, OneType, Standing, StandingAll};
 ghost use Rattle.record.specs.Literals.{Sized};
 ghost use Rattle.memory.specs.Sizes.{Align};
 ghost use Rattle.layout.specs.Laid.{KindLaid, LaidAt, LaidAll, paper, LaidTold};
-ghost use Rattle.layout.specs.Extents.{Aligned, past_of, Times, Rounds, ScalarExtent, VectorExtent, Extends, ExtendsAll};
+ghost use Rattle.layout.specs.Extents.{past_of, Times, Rounds, ScalarExtent, VectorExtent, Extends, ExtendsAll};
 
 use error::Refusal;
 use kind::Scalar;
-use ty::{Head, Limit, Target, TypeEnd};
+use ty::{Head, Limit, Target};
 
-// The answer of the entry `layout_of`: size and alignment, or the number of the refusal.
+// Where a type's record ends, and the size and the alignment of the type.
 #[derive(Clone, Copy)]
-pub enum Laid {
-    Layout(usize, usize),
-    Refused(u8),
+pub struct Extent {
+    pub end: usize,
+    pub size: usize,
+    pub align: u8,
 }
 
-// Where a type's record ends, and the size and the alignment of the type; or that its size is past 64 bits.
+// What a caller is told of a type.
 #[derive(Clone, Copy)]
-pub enum Extent {
-    Is(usize, usize, u8),
-    TooLong,
-}
-
-// Where a member ends, or that this is past 64 bits.
-#[derive(Clone, Copy)]
-enum Past {
-    At(usize),
-    TooLong,
-}
-
-#[derive(Clone, Copy)]
-struct Most;
-
-impl Most {
-    // The greatest size that 64 bits hold.
-    const SIZE: usize = 0xffff_ffff_ffff_ffff;
+pub struct Layout {
+    pub size: usize,
+    pub align: usize,
 }
 
 // ---- which types have a layout
 
 // The end of a type's record, if its kind has a place in memory.
-fn laid_end(k: u8, e: usize) -> TypeEnd
+fn laid_end(k: u8, e: usize) -> Option<usize>
     ensures { KindLaid k e result }
 {
     let scalar = Scalar { kind: k };
     if scalar.has_layout() {
-        return TypeEnd::At(e);
+        return Some(e);
     }
-    TypeEnd::Bad
+    None
 }
 
 // The end of n types' records, if all have a layout.
 #[cycle(members_laid_walk_laid)]
-fn members_laid(ty: &[u8], at: usize, n: u16, depth: u8) -> TypeEnd
+fn members_laid(ty: &[u8], at: usize, n: u16, depth: u8) -> Option<usize>
     requires { StandingAll depth ty.now at n }
     ensures { LaidAll depth ty.now at n result }
 {
     let mut i = at;
-    let mut left = n;
-    while 0 < left {
-        match walk_laid(ty, i, depth) {
-            TypeEnd::At(e) => {
-                i = e;
-            }
-            TypeEnd::Bad => {
-                return TypeEnd::Bad;
-            }
-        }
-        left -= 1;
+    for _ in 0..n {
+        i = walk_laid(ty, i, depth)?;
     }
-    TypeEnd::At(i)
+    Some(i)
 }
 
 // The end of the record of the type that stands at `at`, if it has a layout. The allowed depth is the number that falls.
 #[cycle(members_laid_walk_laid)]
-fn walk_laid(ty: &[u8], at: usize, depth: u8) -> TypeEnd
+fn walk_laid(ty: &[u8], at: usize, depth: u8) -> Option<usize>
     requires { Standing depth ty.now at }
     ensures { LaidAt depth ty.now at result }
 {
@@ -100,10 +77,7 @@ pub fn has_layout(ty: &[u8]) -> bool
     requires { OneType ty.now }
     ensures { (t : Ty) → Whole ty.now t → result ≡ has_layout t }
 {
-    match walk_laid(ty, 0, Limit::DEPTH) {
-        TypeEnd::At(_) => true,
-        TypeEnd::Bad => false,
-    }
+    walk_laid(ty, 0, Limit::DEPTH).is_some()
 }
 
 // ---- alignment and size
@@ -124,7 +98,7 @@ fn gap(align: u8, n: usize) -> u8
     requires { Align align }
     ensures { (result ≡ round_up align n - n) × (result < 16) }
 {
-    let a = record::wide(align);
+    let a = usize::from(align);
     let over = n % a;
     if over == 0 {
         return 0;
@@ -132,149 +106,110 @@ fn gap(align: u8, n: usize) -> u8
     (a - over) as u8
 }
 
-// The greater of the two.
-fn larger(a: u8, b: u8) -> u8
-    ensures { result ≡ max a b }
-{
-    if a < b {
-        return b;
-    }
-    a
-}
-
 // A scalar, whose type's record ends at e.
 fn scalar_extent(e: usize, k: u8) -> Extent
     ensures { ScalarExtent e k result }
 {
     let size = memory::scalar_size(k);
-    Extent::Is(e, size, size as u8)
+    Extent {
+        end: e,
+        size,
+        align: size as u8,
+    }
 }
 
 // A vector, or a column of a matrix, whose type's record ends at e.
 fn vector_extent(e: usize, n: u8, k: u8) -> Extent
     ensures { VectorExtent e n k result }
 {
-    Extent::Is(
-        e,
-        record::wide(n) * memory::scalar_size(k),
-        vector_align(n, k),
-    )
+    Extent {
+        end: e,
+        size: usize::from(n) * memory::scalar_size(k),
+        align: vector_align(n, k),
+    }
 }
 
-// n times the size.
-fn times(n: u16, x: Extent) -> Extent
-    requires { 1 ≤ n }
+// n times the size; None where that is past 64 bits.
+fn times(n: u16, x: Extent) -> Option<Extent>
     ensures { Times n x result }
 {
-    match x {
-        Extent::Is(e, size, align) => {
-            let k = n as usize;
-            if size > Most::SIZE / k {
-                return Extent::TooLong;
-            }
-            Extent::Is(e, k * size, align)
-        }
-        Extent::TooLong => Extent::TooLong,
-    }
+    let size = usize::from(n).checked_mul(x.size)?;
+    Some(Extent { size, ..x })
 }
 
 // The size rounded up to the alignment, the padding that this adds put into the table at `at`: it is behind each
-// column, behind each element, or behind the last member.
-fn rounded(x: Extent, at: usize, pads: &mut [u8]) -> Extent
-    requires { Aligned x × (at < length pads.old) }
+// column, behind each element, or behind the last member. None where the size is then past 64 bits.
+fn rounded(x: Extent, at: usize, pads: &mut [u8]) -> Option<Extent>
+    requires { Align x.align × (at < length pads.old) }
     ensures { Rounds x at pads.old result pads.new }
 {
-    match x {
-        Extent::Is(e, size, align) => {
-            let g = gap(align, size);
-            if record::wide(g) > Most::SIZE - size {
-                return Extent::TooLong;
-            }
-            pads[at] = g;
-            Extent::Is(e, size + record::wide(g), align)
-        }
-        Extent::TooLong => Extent::TooLong,
-    }
+    let g = gap(x.align, x.size);
+    let size = x.size.checked_add(usize::from(g))?;
+    pads[at] = g;
+    Some(Extent { size, ..x })
 }
 
-// Where a member ends that begins g bytes behind `end`.
-fn member_end(end: usize, g: u8, size: usize) -> Past
+// Where a member ends that begins g bytes behind `end`; None past 64 bits.
+fn member_end(end: usize, g: u8, size: usize) -> Option<usize>
     ensures { result ≡ past_of (end + g + size) }
 {
-    let start = record::wide(g);
-    if start > Most::SIZE - end {
-        return Past::TooLong;
-    }
-    if size > Most::SIZE - (end + start) {
-        return Past::TooLong;
-    }
-    Past::At(end + start + size)
+    end.checked_add(usize::from(g))?.checked_add(size)
 }
 
-// The members whose n types stand at `at`: where the last one ends, and the greatest alignment. The padding before each
-// goes into the table behind the first byte of its record.
+// The members whose n types stand at `at`: where the last one ends, and the greatest alignment; None past 64 bits. The
+// padding before each goes into the table behind the first byte of its record.
 #[cycle(members_extent_walk_extent)]
-fn members_extent(ty: &[u8], at: usize, n: u16, depth: u8, pads: &mut [u8]) -> Extent
+fn members_extent(ty: &[u8], at: usize, n: u16, depth: u8, pads: &mut [u8]) -> Option<Extent>
     requires { StandingAll depth ty.now at n × (length ty.now ≤ length pads.old) }
     ensures { ExtendsAll depth ty.now at n pads.old result pads.new }
 {
     let mut i = at;
     let mut end: usize = 0;
     let mut most: u8 = 1;
-    let mut left = n;
-    while 0 < left {
-        match walk_extent(ty, i, depth, pads) {
-            Extent::Is(e, size, align) => {
-                let g = gap(align, end);
-                pads[i + 1] = g;
-                match member_end(end, g, size) {
-                    Past::At(p) => {
-                        end = p;
-                    }
-                    Past::TooLong => {
-                        return Extent::TooLong;
-                    }
-                }
-                most = larger(most, align);
-                i = e;
-            }
-            Extent::TooLong => {
-                return Extent::TooLong;
-            }
-        }
-        left -= 1;
+    for _ in 0..n {
+        let member = walk_extent(ty, i, depth, pads)?;
+        let g = gap(member.align, end);
+        pads[i + 1] = g;
+        end = member_end(end, g, member.size)?;
+        most = most.max(member.align);
+        i = member.end;
     }
-    Extent::Is(i, end, most)
+    Some(Extent {
+        end: i,
+        size: end,
+        align: most,
+    })
 }
 
 // The type that stands at `at`, all that follows from it worked out once: its size, its alignment, and the padding
-// inside it, which goes into the table. The allowed depth is the number that falls.
+// inside it, which goes into the table; None where the size is past 64 bits. The allowed depth is the number that
+// falls.
 #[cycle(members_extent_walk_extent)]
-fn walk_extent(ty: &[u8], at: usize, depth: u8, pads: &mut [u8]) -> Extent
+fn walk_extent(ty: &[u8], at: usize, depth: u8, pads: &mut [u8]) -> Option<Extent>
     requires { Standing depth ty.now at × (length ty.now ≤ length pads.old) }
     ensures { Extends depth ty.now at pads.old result pads.new }
 {
     match ty::head_at(ty, at, depth) {
-        Head::Scalar(k) => scalar_extent(at + 3, k),
-        Head::Vector(n, k) => vector_extent(at + 6, n, k),
+        Head::Scalar(k) => Some(scalar_extent(at + 3, k)),
+        Head::Vector(n, k) => Some(vector_extent(at + 6, n, k)),
         Head::Matrix(c, r, k) => {
-            let x = rounded(vector_extent(at + 7, r, k), at, pads);
-            times(record::count(c), x)
+            let column = rounded(vector_extent(at + 7, r, k), at, pads)?;
+            times(u16::from(c), column)
         }
         Head::Array(n) => {
-            let part = walk_extent(ty, at + 4, depth - 1, pads);
-            let x = rounded(part, at, pads);
-            times(n, x)
+            let part = walk_extent(ty, at + 4, depth - 1, pads)?;
+            let element = rounded(part, at, pads)?;
+            times(n, element)
         }
         Head::Struct(_, n) => {
-            let parts = members_extent(ty, at + 6, n, depth - 1, pads);
-            rounded(parts, at, pads)
+            let members = members_extent(ty, at + 6, n, depth - 1, pads)?;
+            rounded(members, at, pads)
         }
     }
 }
 
 // The same of a whole record.
-pub fn measure(ty: &[u8], pads: &mut [u8]) -> Extent
+pub fn measure(ty: &[u8], pads: &mut [u8]) -> Option<Extent>
     requires { OneType ty.now × (length ty.now ≤ length pads.old) }
     ensures { Extends 15 ty.now 0 pads.old result pads.new }
 {
@@ -284,31 +219,30 @@ pub fn measure(ty: &[u8], pads: &mut [u8]) -> Extent
 // ---- the entry
 
 // Of a type, whose record the target is.
-fn layout_of_type(target: &[u8]) -> Laid
+fn layout_of_type(target: &[u8]) -> Result<Layout, Refusal>
     requires { OneType target.now × (length target.now ≤ 4096) }
     ensures { LaidTold target.now result }
 {
     if !has_layout(target) {
-        return Laid::Refused(Refusal::NO_LAYOUT);
+        return Err(Refusal::NoLayout);
     }
     let mut pads = [0u8; Limit::TYPE_BYTES];
-    match measure(target, &mut pads) {
-        Extent::Is(_, size, align) => Laid::Layout(size, record::wide(align)),
-        Extent::TooLong => Laid::Refused(Refusal::NO_ROOM),
-    }
+    let extent = measure(target, &mut pads).ok_or(Refusal::NoRoom)?;
+    Ok(Layout {
+        size: extent.size,
+        align: usize::from(extent.align),
+    })
 }
 
 // The size and the alignment of the type whose record the target is, so that a caller can lend the right buffer.
 // Nothing is assumed of the bytes.
-pub fn layout_of(target: &[u8]) -> Laid
+pub fn layout_of(target: &[u8]) -> Result<Layout, Refusal>
     ensures { paper result ≡ layout_answer target.now }
 {
-    match ty::read_target(target) {
+    let found = ty::read_target(target).ok_or(Refusal::BadTarget)?;
+    match found {
         Target::Type => layout_of_type(target),
-        Target::Runtime => Laid::Refused(Refusal::NO_LAYOUT),
-        Target::Array => Laid::Refused(Refusal::BAD_TARGET),
-        Target::Vector(_) => Laid::Refused(Refusal::BAD_TARGET),
-        Target::Matrix(_, _) => Laid::Refused(Refusal::BAD_TARGET),
-        Target::Bad => Laid::Refused(Refusal::BAD_TARGET),
+        Target::Runtime => Err(Refusal::NoLayout),
+        _ => Err(Refusal::BadTarget),
     }
 }

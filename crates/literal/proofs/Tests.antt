@@ -22,7 +22,7 @@ use Rattle.kind.specs.Ends.{of_kind, known}
 use Rattle.kind.proofs.Numbers.{Others, over, same}
 use Rattle.literal.specs.LiteralAnswers.{converted_of, conv_between, tried, ctor_from, rules_of}
 use Rattle.literal.specs.declared.Rules.{Rules}
-use Rattle.literal.specs.declared.Converted.TheVariants as converted
+use Rattle.std.specs.declared.option.Option.TheVariants.{None, Some}
 
 -- ---- conversion between kinds
 
@@ -81,12 +81,12 @@ module _ (p emax : ℕ) (F : Format p emax) (P : (2 ≤ p) × (65 ≤ emax)) whe
 -- ---- the refusals of the constructors
 
 -- 15, by what a conversion answers
-pub fits : (w : Bool) (p q : ℕ) → converted_of (cond w (some p) none) ≡ converted.To q → ok q ≡ tried (cond (not w) 15 0) p
+pub fits : (w : Bool) (p q : ℕ) → converted_of (cond w (some p) none) ≡ Some q → ok q ≡ tried (cond (not w) 15 0) p
 unfolding converted_of
 fits true p q e = cc
 fits false p q e = absurd (let z : ◌≡◌ {A = ℕ} 0 1 = cc in omega arith)
 
-pub unfit : (w : Bool) (p : ℕ) → converted_of (cond w (some p) none) ≡ converted.Unfit → no 15 ≡ tried (cond (not w) 15 0) p
+pub unfit : (w : Bool) (p : ℕ) → converted_of (cond w (some p) none) ≡ None → no 15 ≡ tried (cond (not w) 15 0) p
 unfolding converted_of
 unfit true p e = absurd (let z : ◌≡◌ {A = ℕ} 0 1 = cc in omega arith)
 unfit false p e = refl

@@ -1,19 +1,22 @@
 -- What the answers of one literal stand for, and what they are to be for any numbers of kinds, by the rules of a stage.
 use Rattle.std.specs.Prelude.{◌≡◌, Bool, not, ℕ, ◌^◌, ◌≤◌, ◌<◌, eqb}
-use Rattle.std.proofs.Math.Option.{Option, none, some}
+use Rattle.std.proofs.Math.Option.{Option as Maybe, none, some}
 use Rattle.meaning.specs.Kinds.{Kind, kind_of, is_abstract}
 use Rattle.meaning.specs.Floats.{Num, nan}
 use Rattle.meaning.specs.Scalars.{Stage, number, within, toward, conv, checked}
 use Rattle.meaning.specs.Answers.{Result, ok, no, need, ◌>>◌}
 use Rattle.meaning.specs.Build.{ctor_lit}
 use Rattle.kind.specs.Ends.{of_kind, of_kinds, numbered, low, high}
-use Rattle.literal.specs.declared.Converted.{Converted}
-use Rattle.literal.specs.declared.Converted.TheVariants as converted
-use Rattle.literal.specs.declared.Made.{Made}
-use Rattle.literal.specs.declared.Made.TheVariants as made
+use Rattle.literal.specs.declared.Unmade.{Unmade}
+use Rattle.literal.specs.declared.Unmade.TheVariants.{NoTarget, NoArgument, Abstract, Integer, Float}
+use Rattle.error.specs.declared.Refusal.{Refusal}
+use Rattle.error.specs.declared.Refusal.TheVariants.{BadTarget, BadArgument, NoStage, NotConstructible, IntegerRange, FloatRange}
+use Rattle.error.specs.Refusals.{refusal, Refusing}
+use Rattle.std.specs.declared.result.Result.{Result as Outcome}
+use Rattle.std.specs.declared.result.Result.TheVariants.{Ok, Err}
 use Rattle.literal.specs.declared.Rules.{Rules}
-use Rattle.literal.specs.declared.Staged.{Staged}
-use Rattle.literal.specs.declared.Staged.TheVariants as staged
+use Rattle.std.specs.declared.option.Option.{Option}
+use Rattle.std.specs.declared.option.Option.TheVariants.{None, Some}
 
 -- ---- the range of a kind, by its number
 
@@ -31,16 +34,16 @@ held_in n x = toward (numbered low n) (numbered high n) x
 -- ---- conversion without a constructor
 
 -- the code's answer for a payload, and for none
-unfoldable pub converted_of : Option ℕ → Converted
-converted_of none = converted.Unfit
-converted_of (some p) = converted.To p
+unfoldable pub converted_of : Maybe ℕ → Option ℕ
+converted_of none = None
+converted_of (some p) = Some p
 
 -- the literal p of the kind j as one of another, by that one's number
-unfoldable pub conv_from : Kind → ℕ → ℕ → Option ℕ
+unfoldable pub conv_from : Kind → ℕ → ℕ → Maybe ℕ
 conv_from j to p = of_kind none (λ k. conv k j p) (kind_of to)
 
 -- the literal p of one kind as one of another, by their numbers; a number that is no kind's takes and gives nothing
-unfoldable pub conv_between : ℕ → ℕ → ℕ → Option ℕ
+unfoldable pub conv_between : ℕ → ℕ → ℕ → Maybe ℕ
 conv_between to from p = of_kinds none (λ j k. conv k j p) (kind_of from) (kind_of to)
 
 -- ---- the number of a literal, by its kind's number; a number that is no kind's has a NaN
@@ -60,20 +63,28 @@ pub record SomeStage (rules : Rules) : Type 0 where
   pub ruled : rules ≡ rules_of stage
 
 -- the code's answer for a stage, and for none
-unfoldable pub staged_of : Option Stage → Staged
-staged_of none = staged.Never
-staged_of (some s) = staged.At (rules_of s)
+unfoldable pub staged_of : Maybe Stage → Refusing Rules
+staged_of none = Err NoStage
+staged_of (some s) = Ok (rules_of s)
 
 -- ---- the scalar constructors
 
+-- a payload, or why there is none
+abbrev pub Made : Type 0
+Made = Outcome ℕ Unmade
+
+-- which refusal each is: 1, 2, 4, 15 and 21
+abbrev pub refusal_for : Unmade → Refusal
+refusal_for NoTarget = BadTarget
+refusal_for NoArgument = BadArgument
+refusal_for Abstract = NotConstructible
+refusal_for Integer = IntegerRange
+refusal_for Float = FloatRange
+
 -- the paper's number for each answer
 unfoldable pub paper : Made → Result ℕ
-paper (made.Of p) = ok p
-paper made.NoTarget = no 1
-paper made.NoArgument = no 2
-paper made.Abstract = no 4
-paper made.Integer = no 15
-paper made.Float = no 21
+paper (Ok p) = ok p
+paper (Err u) = refusal (refusal_for u)
 
 -- a payload, or a refusal of the number n; 0 refuses nothing
 abbrev pub tried : ℕ → ℕ → Result ℕ

@@ -8,34 +8,38 @@ ghost use Rattle.meaning.specs.Kinds.{bool, aint, afloat, i32, u32, f32, f16, ki
 ghost use Rattle.meaning.specs.Floats.{binary16, outside};
 ghost use Rattle.meaning.specs.Floats as Floats;
 ghost use Rattle.meaning.specs.Scalars.{before_f16, number, within, toward, nonzero, some?};
-ghost use Rattle.meaning.specs.Answers.{refusal_of};
 ghost use Rattle.meaning.specs.Entries.{stage_of};
-ghost use Rattle.laws.proofs.Digits.{Format};
 ghost use Rattle.kind.specs.Ends.{of_kind};
-ghost use Rattle.float.specs.Taken.{Stands, Layout, meaning};
+ghost use Rattle.float.specs.Taken.{Stands, meaning};
 ghost use Rattle.literal.specs.LiteralAnswers.{converted_of, conv_from, conv_between, number_of, Short, in_range, held_in, staged_of};
-ghost use Rattle.literal.specs.LiteralAnswers.{paper, tried, Always, When, no_ctor, WhenTo};
+ghost use Rattle.literal.specs.LiteralAnswers.{refusal_for, paper, tried, Always, When, no_ctor, WhenTo};
 
 use error::Refusal;
-use float::Parts;
+use float::{Binary16, Binary32, Binary64, Format, Parts, Pattern, Whole};
 use kind::Scalar;
 
-// A literal converted without a constructor: its payload, or that it does not fit.
+// Why a scalar constructor makes nothing of a literal: its kind or the literal's is none, or the refusals 4, 15 and 21.
 #[derive(Clone, Copy)]
-pub enum Converted {
-    To(u64),
-    Unfit,
-}
-
-// What a scalar constructor makes of a literal: the payload; or a refusal. `paper` gives each its number.
-#[derive(Clone, Copy)]
-pub enum Made {
-    Of(u64),
+pub enum Unmade {
     NoTarget,
     NoArgument,
     Abstract,
     Integer,
     Float,
+}
+
+impl From<Unmade> for Refusal {
+    ghost from_gives = { λ u r. r ≡ refusal_for u };
+
+    fn from(why: Unmade) -> Refusal {
+        match why {
+            Unmade::NoTarget => Refusal::BadTarget,
+            Unmade::NoArgument => Refusal::BadArgument,
+            Unmade::Abstract => Refusal::NotConstructible,
+            Unmade::Integer => Refusal::IntegerRange,
+            Unmade::Float => Refusal::FloatRange,
+        }
+    }
 }
 
 // The stage of an evaluation (`ShaderStage` of the source), by its number. The numbers are written once, here.
@@ -56,31 +60,17 @@ pub struct Rules {
     pub checked: bool,
 }
 
-// The rules at a stage, or that there is no such stage.
-#[derive(Clone, Copy)]
-pub enum Staged {
-    At(Rules),
-    Never,
-}
-
-// A whole number by its sign and its magnitude.
-#[derive(Clone, Copy)]
-struct Whole {
-    negative: bool,
-    magnitude: u64,
-}
-
 // ---- the stage
 
-// "Stage and kind choices: matches": the stage picks the rules, and that stands here alone.
-pub fn rules_at(stage: u8) -> Staged
+// "Stage and kind choices: matches": the stage picks the rules, and that stands here alone; another number is refused.
+pub fn rules_at(stage: u8) -> Result<Rules, Refusal>
     ensures { result ≡ staged_of (stage_of stage) }
 {
     match stage {
-        Stage::CONST => Staged::At(Rules { checked: true }),
-        Stage::OVERRIDE => Staged::At(Rules { checked: true }),
-        Stage::EXEC => Staged::At(Rules { checked: false }),
-        _ => Staged::Never,
+        Stage::CONST => Ok(Rules { checked: true }),
+        Stage::OVERRIDE => Ok(Rules { checked: true }),
+        Stage::EXEC => Ok(Rules { checked: false }),
+        _ => Err(Refusal::NoStage),
     }
 }
 
@@ -125,24 +115,18 @@ fn i32_number(bits: u64) -> Whole
     }
 }
 
-fn whole_parts(n: Whole) -> Parts
-    ensures { Stands (Floats.integer n.negative n.magnitude) result }
-{
-    float::int_parts(n.negative, n.magnitude)
-}
-
 // The number of a literal, by its kind.
 fn parts_of(from: u8, bits: u64) -> Parts
     ensures { Stands (number_of from bits) result }
 {
     match from {
-        Scalar::BOOL => float::int_parts(false, bits),
-        Scalar::ABSTRACT_INT => whole_parts(abstract_int_number(bits)),
-        Scalar::ABSTRACT_FLOAT => float::f64_parts(bits),
-        Scalar::I32 => whole_parts(i32_number(bits)),
-        Scalar::U32 => float::int_parts(false, bits),
-        Scalar::F32 => float::f32_parts(bits),
-        Scalar::F16 => float::f16_parts(bits),
+        Scalar::BOOL => Parts::from(Whole::from(bits)),
+        Scalar::ABSTRACT_INT => Parts::from(abstract_int_number(bits)),
+        Scalar::ABSTRACT_FLOAT => float::unpack::<Binary64>(bits),
+        Scalar::I32 => Parts::from(i32_number(bits)),
+        Scalar::U32 => Parts::from(Whole::from(bits)),
+        Scalar::F32 => float::unpack::<Binary32>(bits),
+        Scalar::F16 => float::unpack::<Binary16>(bits),
         _ => Parts::Nan,
     }
 }
@@ -150,19 +134,19 @@ fn parts_of(from: u8, bits: u64) -> Parts
 // ---- conversion without a constructor
 
 // A whole number, if it lies within -lo and hi.
-fn integer_within(lo: u64, hi: u64, v: Parts) -> Converted
+fn integer_within(lo: u64, hi: u64, v: Parts) -> Option<u64>
     requires { (lo ≤ 2 ^ 32) × (hi < 2 ^ 32) }
     ensures { result ≡ converted_of (cond (within lo hi (meaning v)) (some (toward lo hi (meaning v))) none) }
 {
     if float::within(lo, hi, v) {
-        Converted::To(float::toward(lo, hi, v))
+        Some(float::toward(lo, hi, v))
     } else {
-        Converted::Unfit
+        None
     }
 }
 
 // The same within the range of a kind.
-fn integer(to: u8, v: Parts) -> Converted
+fn integer(to: u8, v: Parts) -> Option<u64>
     requires { Short to }
     ensures { result ≡ converted_of (cond (in_range to (meaning v)) (some (held_in to (meaning v))) none) }
 {
@@ -171,66 +155,61 @@ fn integer(to: u8, v: Parts) -> Converted
 }
 
 // A pattern made, if it is a finite number's.
-fn finite(p: u64, emax: u64, w: u64, made: u64) -> Converted
-    requires { Layout p emax w }
-    ensures { result ≡ converted_of (cond (Floats.finite p emax made) (some made) none) }
+fn finite<F: Pattern>(made: u64) -> Option<u64>
+    ensures { result ≡ converted_of (cond (Floats.finite F.DIGITS F.EMAX made) (some made) none) }
 {
-    if float::is_finite(p, emax, w, made) {
-        Converted::To(made)
+    if float::is_finite::<F>(made) {
+        Some(made)
     } else {
-        Converted::Unfit
+        None
     }
 }
 
 // An AbstractInt as a literal of another kind: "AbstractInt to I32, U32, AbstractFloat, F32, F16", "an integer within
 // the target's range, a float result finite".
-fn convert_abstract_int(to: u8, bits: u64) -> Converted
+fn convert_abstract_int(to: u8, bits: u64) -> Option<u64>
     ensures { result ≡ converted_of (conv_from aint to bits) }
 {
     let n = abstract_int_number(bits);
     match to {
-        Scalar::BOOL => Converted::Unfit,
-        Scalar::ABSTRACT_INT => Converted::To(bits),
-        Scalar::ABSTRACT_FLOAT => finite(53, 1023, 11, float::int_to_f64(n.negative, n.magnitude)),
-        Scalar::I32 => integer(Scalar::I32, whole_parts(n)),
-        Scalar::U32 => integer(Scalar::U32, whole_parts(n)),
-        Scalar::F32 => finite(24, 127, 8, float::int_to_f32(n.negative, n.magnitude)),
-        Scalar::F16 => finite(11, 15, 5, float::int_to_f16(n.negative, n.magnitude)),
-        _ => Converted::Unfit,
+        Scalar::BOOL => None,
+        Scalar::ABSTRACT_INT => Some(bits),
+        Scalar::ABSTRACT_FLOAT => finite::<Binary64>(float::of_int::<Binary64>(n)),
+        Scalar::I32 => integer(Scalar::I32, Parts::from(n)),
+        Scalar::U32 => integer(Scalar::U32, Parts::from(n)),
+        Scalar::F32 => finite::<Binary32>(float::of_int::<Binary32>(n)),
+        Scalar::F16 => finite::<Binary16>(float::of_int::<Binary16>(n)),
+        _ => None,
     }
 }
 
 // The same of an AbstractFloat: "AbstractFloat to F32, F16".
-fn convert_abstract_float(to: u8, bits: u64) -> Converted
+fn convert_abstract_float(to: u8, bits: u64) -> Option<u64>
     ensures { result ≡ converted_of (conv_from afloat to bits) }
 {
     match to {
-        Scalar::BOOL => Converted::Unfit,
-        Scalar::ABSTRACT_INT => Converted::Unfit,
-        Scalar::ABSTRACT_FLOAT => Converted::To(bits),
-        Scalar::I32 => Converted::Unfit,
-        Scalar::U32 => Converted::Unfit,
-        Scalar::F32 => finite(24, 127, 8, float::f64_to_f32(bits)),
-        Scalar::F16 => finite(11, 15, 5, float::f64_to_f16(bits)),
-        _ => Converted::Unfit,
+        Scalar::BOOL => None,
+        Scalar::ABSTRACT_INT => None,
+        Scalar::ABSTRACT_FLOAT => Some(bits),
+        Scalar::I32 => None,
+        Scalar::U32 => None,
+        Scalar::F32 => finite::<Binary32>(float::convert::<Binary64, Binary32>(bits)),
+        Scalar::F16 => finite::<Binary16>(float::convert::<Binary64, Binary16>(bits)),
+        _ => None,
     }
 }
 
 // Any other kind converts to itself alone.
-fn convert_same(to: u8, from: u8, bits: u64) -> Converted
+fn convert_same(to: u8, from: u8, bits: u64) -> Option<u64>
     ensures { result ≡ converted_of (cond (eqb from to) (some bits) none) }
 {
-    if from == to {
-        Converted::To(bits)
-    } else {
-        Converted::Unfit
-    }
+    if from == to { Some(bits) } else { None }
 }
 
 // A literal of one kind as a literal of another (`convert_to` of conv.rs); "an unchanged kind keeps its bits". "Stage
 // and kind choices: matches": the kind that the literal has picks the rule, and in it the target's kind. No rank is
 // asked for: each rule answers for the kinds that have none.
-pub fn convert_literal(to: u8, from: u8, bits: u64) -> Converted
+pub fn convert_literal(to: u8, from: u8, bits: u64) -> Option<u64>
     ensures { result ≡ converted_of (conv_between to from bits) }
 {
     match from {
@@ -241,7 +220,7 @@ pub fn convert_literal(to: u8, from: u8, bits: u64) -> Converted
         Scalar::U32 => convert_same(to, from, bits),
         Scalar::F32 => convert_same(to, from, bits),
         Scalar::F16 => convert_same(to, from, bits),
-        _ => Converted::Unfit,
+        _ => None,
     }
 }
 
@@ -259,7 +238,7 @@ fn integer_fits(to: u8, v: Parts) -> bool
 fn abstract_int_fits(to: u8, bits: u64) -> bool
     ensures { result ≡ some? (conv_from aint to bits) }
 {
-    let v = whole_parts(abstract_int_number(bits));
+    let v = Parts::from(abstract_int_number(bits));
     match to {
         Scalar::BOOL => false,
         Scalar::ABSTRACT_INT => true,
@@ -267,7 +246,7 @@ fn abstract_int_fits(to: u8, bits: u64) -> bool
         Scalar::I32 => integer_fits(Scalar::I32, v),
         Scalar::U32 => integer_fits(Scalar::U32, v),
         Scalar::F32 => true,
-        Scalar::F16 => float::rounds_finite(11, 15, v),
+        Scalar::F16 => float::rounds_finite::<Binary16>(v),
         _ => false,
     }
 }
@@ -282,8 +261,8 @@ fn abstract_float_fits(to: u8, bits: u64) -> bool
         Scalar::ABSTRACT_FLOAT => true,
         Scalar::I32 => false,
         Scalar::U32 => false,
-        Scalar::F32 => float::rounds_finite(24, 127, float::f64_parts(bits)),
-        Scalar::F16 => float::rounds_finite(11, 15, float::f64_parts(bits)),
+        Scalar::F32 => float::rounds_finite::<Binary32>(float::unpack::<Binary64>(bits)),
+        Scalar::F16 => float::rounds_finite::<Binary16>(float::unpack::<Binary64>(bits)),
         _ => false,
     }
 }
@@ -335,29 +314,28 @@ fn held_in(to: u8, from: u8, bits: u64) -> u64
 }
 
 // "AbstractInt must fit (15)"
-fn fitting(to: u8, from: u8, bits: u64) -> Made
+fn fitting(to: u8, from: u8, bits: u64) -> Result<u64, Unmade>
     requires { Short to }
     ensures { paper result ≡ tried (cond (not (in_range to (number_of from bits))) 15 0) (held_in to (number_of from bits)) }
 {
     match integer(to, parts_of(from, bits)) {
-        Converted::To(q) => Made::Of(q),
-        Converted::Unfit => Made::Integer,
+        Some(q) => Ok(q),
+        None => Err(Unmade::Integer),
     }
 }
 
 // A payload made of a number; where the rules say so, the number must lie in the format's finite range (21).
-fn ranged(p: u64, emax: u64, rules: Rules, v: Parts, made: u64) -> Made
-    requires format { Format p emax }
-    requires p_bound { p ≤ emax + 1 }
-    ensures { paper result ≡ tried (cond (rules.checked && outside p emax (meaning v)) 21 0) made }
+fn ranged<F: Format>(rules: Rules, v: Parts, made: u64) -> Result<u64, Unmade>
+    requires { F.DIGITS ≤ F.EMAX + 1 }
+    ensures { paper result ≡ tried (cond (rules.checked && outside F.DIGITS F.EMAX (meaning v)) 21 0) made }
 {
     if !rules.checked {
-        return Made::Of(made);
+        return Ok(made);
     }
-    if float::outside(p, emax, v) {
-        Made::Float
+    if float::outside::<F>(v) {
+        Err(Unmade::Float)
     } else {
-        Made::Of(made)
+        Ok(made)
     }
 }
 
@@ -366,141 +344,130 @@ fn ranged(p: u64, emax: u64, rules: Rules, v: Parts, made: u64) -> Made
 fn f16_bits(from: u8, bits: u64) -> u64
     ensures { result ≡ of_kind 0 (λ k. binary16 Floats.bits (before_f16 k (number k bits))) (kind_of from) }
 {
-    match from {
-        Scalar::BOOL => float::f32_to_f16(float::int_to_f32(false, bits)),
-        Scalar::ABSTRACT_INT => {
-            let n = abstract_int_number(bits);
-            float::f32_to_f16(float::int_to_f32(n.negative, n.magnitude))
-        }
-        Scalar::ABSTRACT_FLOAT => float::f32_to_f16(float::f64_to_f32(bits)),
-        Scalar::I32 => {
-            let i = i32_number(bits);
-            float::f32_to_f16(float::int_to_f32(i.negative, i.magnitude))
-        }
-        Scalar::U32 => float::f32_to_f16(float::int_to_f32(false, bits)),
-        Scalar::F32 => float::f32_to_f16(bits),
-        Scalar::F16 => float::f32_to_f16(float::f16_to_f32(bits)),
-        _ => 0,
-    }
+    let single = match from {
+        Scalar::BOOL => float::of_int::<Binary32>(Whole::from(bits)),
+        Scalar::ABSTRACT_INT => float::of_int::<Binary32>(abstract_int_number(bits)),
+        Scalar::ABSTRACT_FLOAT => float::convert::<Binary64, Binary32>(bits),
+        Scalar::I32 => float::of_int::<Binary32>(i32_number(bits)),
+        Scalar::U32 => float::of_int::<Binary32>(Whole::from(bits)),
+        Scalar::F32 => bits,
+        Scalar::F16 => float::convert::<Binary16, Binary32>(bits),
+        _ => return 0,
+    };
+    float::convert::<Binary32, Binary16>(single)
 }
 
 // The same, in its range where the rules say so.
-fn f16_ranged(rules: Rules, from: u8, bits: u64) -> Made
+fn f16_ranged(rules: Rules, from: u8, bits: u64) -> Result<u64, Unmade>
     ensures { paper result ≡ tried (cond (rules.checked && binary16 outside (number_of from bits)) 21 0)
         (of_kind 0 (λ k. binary16 Floats.bits (before_f16 k (number k bits))) (kind_of from)) }
 {
-    ranged(11, 15, rules, parts_of(from, bits), f16_bits(from, bits))
+    ranged::<Binary16>(rules, parts_of(from, bits), f16_bits(from, bits))
 }
 
 // ---- the five scalar constructors: each takes one literal of any kind, and "the same kind keeps its bits"
 
 // `bool` of ctor.rs.
-fn bool_ctor(from: u8, bits: u64) -> Made
+fn bool_ctor(from: u8, bits: u64) -> Result<u64, Unmade>
     ensures { Always bool from bits result }
 {
     match from {
-        Scalar::BOOL => Made::Of(bits),
-        Scalar::ABSTRACT_INT => Made::Of(truth(from, bits)),
-        Scalar::ABSTRACT_FLOAT => Made::Of(truth(from, bits)),
-        Scalar::I32 => Made::Of(truth(from, bits)),
-        Scalar::U32 => Made::Of(truth(from, bits)),
-        Scalar::F32 => Made::Of(truth(from, bits)),
-        Scalar::F16 => Made::Of(truth(from, bits)),
-        _ => Made::NoArgument,
+        Scalar::BOOL => Ok(bits),
+        Scalar::ABSTRACT_INT => Ok(truth(from, bits)),
+        Scalar::ABSTRACT_FLOAT => Ok(truth(from, bits)),
+        Scalar::I32 => Ok(truth(from, bits)),
+        Scalar::U32 => Ok(truth(from, bits)),
+        Scalar::F32 => Ok(truth(from, bits)),
+        Scalar::F16 => Ok(truth(from, bits)),
+        _ => Err(Unmade::NoArgument),
     }
 }
 
 // `i32` of ctor.rs. "U32 keeps its bits"; an F32 saturates at the largest f32 below 2 ^ 31, an F16 at the ends of its own range.
-fn i32_ctor(from: u8, bits: u64) -> Made
+fn i32_ctor(from: u8, bits: u64) -> Result<u64, Unmade>
     ensures { Always i32 from bits result }
 {
     match from {
-        Scalar::BOOL => Made::Of(held_in(Scalar::I32, from, bits)),
+        Scalar::BOOL => Ok(held_in(Scalar::I32, from, bits)),
         Scalar::ABSTRACT_INT => fitting(Scalar::I32, from, bits),
-        Scalar::ABSTRACT_FLOAT => Made::Of(held_in(Scalar::I32, from, bits)),
-        Scalar::I32 => Made::Of(bits),
-        Scalar::U32 => Made::Of(bits),
-        Scalar::F32 => Made::Of(held(0x8000_0000, 2147483520, from, bits)),
-        Scalar::F16 => Made::Of(held_in(Scalar::F16, from, bits)),
-        _ => Made::NoArgument,
+        Scalar::ABSTRACT_FLOAT => Ok(held_in(Scalar::I32, from, bits)),
+        Scalar::I32 => Ok(bits),
+        Scalar::U32 => Ok(bits),
+        Scalar::F32 => Ok(held(0x8000_0000, 2147483520, from, bits)),
+        Scalar::F16 => Ok(held_in(Scalar::F16, from, bits)),
+        _ => Err(Unmade::NoArgument),
     }
 }
 
 // `u32` of ctor.rs. "I32 keeps its bits; negative floats give 0"; an F32 saturates at the largest f32 below 2 ^ 32, an
 // F16 at its own largest.
-fn u32_ctor(from: u8, bits: u64) -> Made
+fn u32_ctor(from: u8, bits: u64) -> Result<u64, Unmade>
     ensures { Always u32 from bits result }
 {
     match from {
-        Scalar::BOOL => Made::Of(held_in(Scalar::U32, from, bits)),
+        Scalar::BOOL => Ok(held_in(Scalar::U32, from, bits)),
         Scalar::ABSTRACT_INT => fitting(Scalar::U32, from, bits),
-        Scalar::ABSTRACT_FLOAT => Made::Of(held_in(Scalar::U32, from, bits)),
-        Scalar::I32 => Made::Of(bits),
-        Scalar::U32 => Made::Of(bits),
-        Scalar::F32 => Made::Of(held(0, 4294967040, from, bits)),
-        Scalar::F16 => Made::Of(held(0, 65504, from, bits)),
-        _ => Made::NoArgument,
+        Scalar::ABSTRACT_FLOAT => Ok(held_in(Scalar::U32, from, bits)),
+        Scalar::I32 => Ok(bits),
+        Scalar::U32 => Ok(bits),
+        Scalar::F32 => Ok(held(0, 4294967040, from, bits)),
+        Scalar::F16 => Ok(held(0, 65504, from, bits)),
+        _ => Err(Unmade::NoArgument),
     }
 }
 
 // `f32` of ctor.rs: the literal's kind picks the conversion. Only an AbstractFloat is checked: no finite number of
 // another kind lies outside f32's range.
-fn f32_ctor(rules: Rules, from: u8, bits: u64) -> Made
+fn f32_ctor(rules: Rules, from: u8, bits: u64) -> Result<u64, Unmade>
     ensures { When rules f32 from bits result }
 {
     match from {
-        Scalar::BOOL => Made::Of(float::int_to_f32(false, bits)),
-        Scalar::ABSTRACT_INT => {
-            let n = abstract_int_number(bits);
-            Made::Of(float::int_to_f32(n.negative, n.magnitude))
-        }
+        Scalar::BOOL => Ok(float::of_int::<Binary32>(Whole::from(bits))),
+        Scalar::ABSTRACT_INT => Ok(float::of_int::<Binary32>(abstract_int_number(bits))),
         Scalar::ABSTRACT_FLOAT => {
-            let v = float::f64_parts(bits);
-            ranged(24, 127, rules, v, float::f64_to_f32(bits))
+            let v = float::unpack::<Binary64>(bits);
+            ranged::<Binary32>(rules, v, float::convert::<Binary64, Binary32>(bits))
         }
-        Scalar::I32 => {
-            let i = i32_number(bits);
-            Made::Of(float::int_to_f32(i.negative, i.magnitude))
-        }
-        Scalar::U32 => Made::Of(float::int_to_f32(false, bits)),
-        Scalar::F32 => Made::Of(bits),
-        Scalar::F16 => Made::Of(float::f16_to_f32(bits)),
-        _ => Made::NoArgument,
+        Scalar::I32 => Ok(float::of_int::<Binary32>(i32_number(bits))),
+        Scalar::U32 => Ok(float::of_int::<Binary32>(Whole::from(bits))),
+        Scalar::F32 => Ok(bits),
+        Scalar::F16 => Ok(float::convert::<Binary16, Binary32>(bits)),
+        _ => Err(Unmade::NoArgument),
     }
 }
 
 // `f16` of ctor.rs. Every other kind but Bool is checked.
-fn f16_ctor(rules: Rules, from: u8, bits: u64) -> Made
+fn f16_ctor(rules: Rules, from: u8, bits: u64) -> Result<u64, Unmade>
     ensures { When rules f16 from bits result }
 {
     match from {
-        Scalar::BOOL => Made::Of(f16_bits(from, bits)),
+        Scalar::BOOL => Ok(f16_bits(from, bits)),
         Scalar::ABSTRACT_INT => f16_ranged(rules, from, bits),
         Scalar::ABSTRACT_FLOAT => f16_ranged(rules, from, bits),
         Scalar::I32 => f16_ranged(rules, from, bits),
         Scalar::U32 => f16_ranged(rules, from, bits),
         Scalar::F32 => f16_ranged(rules, from, bits),
-        Scalar::F16 => Made::Of(bits),
-        _ => Made::NoArgument,
+        Scalar::F16 => Ok(bits),
+        _ => Err(Unmade::NoArgument),
     }
 }
 
 // "not constructible (abstract scalar with arguments)": 4, after the argument's 2.
-fn abstract_ctor(from: u8) -> Made
+fn abstract_ctor(from: u8) -> Result<u64, Unmade>
     ensures { paper result ≡ no_ctor from }
 {
     let k = Scalar { kind: from };
     if k.is_kind() {
-        Made::Abstract
+        Err(Unmade::Abstract)
     } else {
-        Made::NoArgument
+        Err(Unmade::NoArgument)
     }
 }
 
 // ---- all of them
 
 // "Stage and kind choices: matches": the target's kind picks the constructor. The answers come in the order 1, 2, 4, then 15 and 21.
-pub fn construct_literal(rules: Rules, to: u8, from: u8, bits: u64) -> Made
+pub fn construct_literal(rules: Rules, to: u8, from: u8, bits: u64) -> Result<u64, Unmade>
     ensures { WhenTo rules to from bits result }
 {
     match to {
@@ -511,20 +478,6 @@ pub fn construct_literal(rules: Rules, to: u8, from: u8, bits: u64) -> Made
         Scalar::U32 => u32_ctor(from, bits),
         Scalar::F32 => f32_ctor(rules, from, bits),
         Scalar::F16 => f16_ctor(rules, from, bits),
-        _ => Made::NoTarget,
-    }
-}
-
-// The number of a refusal, and 0 where a payload was made.
-pub fn refusal(made: Made) -> u8
-    ensures { result ≡ refusal_of (paper made) }
-{
-    match made {
-        Made::Of(_) => 0,
-        Made::NoTarget => Refusal::BAD_TARGET,
-        Made::NoArgument => Refusal::BAD_ARGUMENT,
-        Made::Abstract => Refusal::NOT_CONSTRUCTIBLE,
-        Made::Integer => Refusal::INTEGER_RANGE,
-        Made::Float => Refusal::FLOAT_RANGE,
+        _ => Err(Unmade::NoTarget),
     }
 }

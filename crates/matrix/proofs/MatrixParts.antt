@@ -32,19 +32,19 @@ use Rattle.ty.proofs.Bottom.{KindIs}
 use Rattle.conv.proofs.Values.{Scan, list_scan, scan_items, scan_fits, some_map}
 use Rattle.args.specs.Row.{Row, HeadOf}
 use Rattle.error.specs.Told.{Builds}
-use Rattle.error.specs.declared.Written.{Written}
 use Rattle.error.proofs.BufferAtExit.{builds_as}
 use Rattle.args.proofs.ArgumentRows.{row_type, row_deep, row_bytes, each_ok, each_shaped}
 use Rattle.convert_all.specs.Lists.{all_to, Asked}
 use Rattle.convert_all.proofs.Converts.{to_types, some_to, all_lits, all_plain}
 use Rattle.convert_all.proofs.ConvertedLists.{all_shaped, all_typed}
 use Rattle.shape.specs.Kinds.{found_of}
-use Rattle.shape.specs.declared.Found.TheVariants.{Kind as Is, Nothing}
 use Rattle.shape.proofs.KindsFound.{found_kind, found_none, scalar_found, vector_found}
 use Rattle.columns.specs.ColumnParts.{Parts}
 use Rattle.matrix.specs.MatrixRules.{FirstAs, To, SomeTo, mat_to, ToMade, Typed, qm_to}
 use Rattle.shape.proofs.Downs.{some_of, none_of, GoesTo}
 use Rattle.matrix.proofs.Downs.{set_stands, float_is}
+use Rattle.std.specs.declared.option.Option.TheVariants.{None, Some}
+use Rattle.error.specs.Told.{Written}
 
 -- ---- what the values converted are
 
@@ -127,7 +127,7 @@ module _ {s : List ℕ} {v : Val} {l : List Val} (w : Row s 0 (v ∷ l)) where
 
   -- the first argument by the front of its type: the kind one level down, and the record with k there
   module _ {i : ℕ} (h : HeadOf s 0 (Scalar i)) where
-    scalar_down : Is i ≡ found_of (lit_kind (inner (type_of v)))
+    scalar_down : Some i ≡ found_of (lit_kind (inner (type_of v)))
     unfolding lit_kind inner
     scalar_down = scalar_found (λ t. lit_kind (inner t)) own (h v l w) (λ j. refl)
 
@@ -143,7 +143,7 @@ module _ {s : List ℕ} {v : Val} {l : List Val} (w : Row s 0 (v ∷ l)) where
     }
 
   module _ {m i : ℕ} (h : HeadOf s 0 (Vector m i)) where
-    vector_down : Is i ≡ found_of (lit_kind (inner (type_of v)))
+    vector_down : Some i ≡ found_of (lit_kind (inner (type_of v)))
     unfolding lit_kind inner
     vector_down = vector_found (λ t. lit_kind (inner t)) own (h v l w) (λ j. refl)
 
@@ -179,11 +179,11 @@ module _ {ty s : List ℕ} {count : ℕ} {t : Ty} {l : List Val} (x : Typed ty s
   pub typed_standing : Standing 15 ty 0
   typed_standing = record { type = t; end = x.end; stands = x.stands }
 
-  pub typed_other : (c r : ℕ) → Nothing ≡ found_of (float_kind (inner t)) → qm_to c r t l ≡ no 13
+  pub typed_other : (c r : ℕ) → None ≡ found_of (float_kind (inner t)) → qm_to c r t l ≡ no 13
   unfolding qm_to
   typed_other c r h = rw (found_none (float_kind (inner t)) h)
 
-  module _ {k : ℕ} (h : Is k ≡ found_of (float_kind (inner t))) where
+  module _ {k : ℕ} (h : Some k ≡ found_of (float_kind (inner t))) where
     pub float : KindIs k (float_kind (inner t))
     float = found_kind (float_kind (inner t)) h
 

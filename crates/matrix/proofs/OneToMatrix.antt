@@ -11,11 +11,14 @@ use Rattle.meaning.specs.Kinds.{Kind, is_abstract}
 use Rattle.meaning.specs.Scalars.{Stage}
 use Rattle.meaning.specs.Trees.{Tm, Val, Vs, Vv, Vm, Va, Vu, type_of}
 use Rattle.meaning.specs.Records.{‘m’, val_bytes, every, good_lit, shaped_val}
-use Rattle.meaning.specs.Answers.{ok, no, ◌>>=◌, all}
+use Rattle.meaning.specs.Answers.{Result, ok, no, ◌>>=◌, all}
 use Rattle.meaning.specs.Build.{ctor_lit, same_size, mat_parts, mat_one, qm_parts, qm_one}
 use Rattle.laws.proofs.Back.{and_l, and_r}
 use Rattle.derive.specs.Derives.{Marked}
 use Rattle.derive.proofs.ValueFronts.{tag_of, marked, matrix_only}
+use Rattle.error.specs.declared.Refusal.{Refusal}
+use Rattle.error.specs.Refusals.{refusal}
+use Rattle.error.proofs.Refusals.{no_more}
 use Rattle.literal.specs.declared.Rules.{Rules}
 use Rattle.record.specs.Values.{HasVal}
 use Rattle.args.specs.Row.{Row}
@@ -159,5 +162,5 @@ module _ {rules : Rules} {c r k : ℕ} {src : List ℕ} {s : Stage} {j i : Kind}
     pub remade : (all (ctor_lit s j i) ps >>= λ us. ok (Vm c r j us)) ≡ ok (Vm c r j qs)
     remade = rw e
 
-  pub remade_no : {n : ℕ} → all (ctor_lit s j i) ps ≡ no n → (all (ctor_lit s j i) ps >>= λ us. ok (Vm c r j us)) ≡ no n
-  remade_no e = rw e
+  pub remade_no : (x : Refusal) → all (ctor_lit s j i) ps ≡ refusal x → (all (ctor_lit s j i) ps >>= λ us. ok (Vm c r j us)) ≡ refusal x
+  remade_no x e = ap (λ (y : Result (List ℕ)). y >>= λ us. ok (Vm c r j us)) e ∙ no_more (λ (us : List ℕ). ok (Vm c r j us)) x

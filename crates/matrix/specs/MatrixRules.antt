@@ -11,11 +11,11 @@ use Rattle.literal.specs.LiteralAnswers.{rules_of}
 use Rattle.literal.specs.declared.Rules.{Rules}
 use Rattle.ty.specs.Stands.{Stands}
 use Rattle.shape.specs.Kinds.{found_of}
-use Rattle.shape.specs.declared.Found.TheVariants.{Kind as Is}
 use Rattle.args.specs.Row.{Row}
 use Rattle.scalar.specs.Made.{Ctor}
 use Rattle.error.specs.Told.{Builds}
-use Rattle.error.specs.declared.Written.{Written}
+use Rattle.std.specs.declared.option.Option.TheVariants.{Some}
+use Rattle.error.specs.Told.{Written}
 
 -- at least one argument, and how many there are
 pub record SomeFirst (s : List ℕ) (count : ℕ) : Type 0 where
@@ -27,7 +27,7 @@ pub record SomeFirst (s : List ℕ) (count : ℕ) : Type 0 where
 -- the kind one level down in the first one's type, "or in its place if it is a scalar", is the one whose number is i;
 -- ty is the record of that type with k there
 pub record FirstAs (k i : ℕ) (ty s : List ℕ) : Type 0 where
-  pub down : (v : Val) (l : List Val) → Row s 0 (v ∷ l) → Is i ≡ found_of (lit_kind (inner (type_of v)))
+  pub down : (v : Val) (l : List Val) → Row s 0 (v ∷ l) → Some i ≡ found_of (lit_kind (inner (type_of v)))
   pub stands : (j : Kind) (v : Val) (l : List Val) → k ≡ kind_no j → Row s 0 (v ∷ l) → Stands 15 ty 0 (set_leaf j (type_of v)) (length ty)
 
 -- ---- a matrix type

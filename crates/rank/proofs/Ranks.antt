@@ -14,7 +14,7 @@ use Rattle.meaning.specs.Scalars.{some?}
 use Rattle.meaning.specs.Trees.{Ty, Ts, Tv, Tm, Ta, Tu, Target, Of, Tr, leaf, set_leaf, same_ty}
 use Rattle.meaning.specs.Records.{le, ty_bytes, joined, every, side, u16, shaped_ty, good_ty, good_arg, good_tys}
 use Rattle.meaning.specs.Read.{read_tys, read_target}
-use Rattle.meaning.specs.Answers.{Result, ok, no, or_no, ◌>>=◌, ◌>>◌}
+use Rattle.meaning.specs.Answers.{Result, no, or_no, ◌>>=◌, ◌>>◌}
 use Rattle.meaning.specs.Convert.{rank, leaf_rank, converts}
 use Rattle.meaning.specs.Entries.{only, rank_one, type_target, rank_answer}
 use Rattle.laws.proofs.AgreeCommon.{set_set}
@@ -28,11 +28,13 @@ use Rattle.laws.proofs.Same.{both, same_ty_lem, same_refl}
 use Rattle.laws.proofs.Sound.{Bytes}
 use Rattle.kind.specs.Ends.{of_kind, numbered}
 use Rattle.kind.proofs.Numbers.{same}
+use Rattle.std.specs.Option.{ok_or, is_some}
+use Rattle.std.specs.declared.option.Option as rust
+use Rattle.error.specs.Refusals.{paper}
+use Rattle.error.specs.declared.Refusal.TheVariants.{NoConversion}
 use Rattle.rank.specs.Ranked.{rank_of, rank_between, kinds_from, KindConverts, front, rank_read}
-use Rattle.rank.specs.declared.Rank.TheVariants.{At, Never}
 use Rattle.ty.specs.Targets.{TypeTarget}
 use Rattle.ty.specs.Heads.{leaf_of}
-use Rattle.ty.specs.declared.Leaf.TheVariants.{Kind as Bottom, Struct as Blocked}
 use Rattle.record.specs.Bytes.{same_bytes}
 use Rattle.ty.proofs.Heads.{ScalarIs}
 use Rattle.ty.proofs.Equal.{same_records}
@@ -42,21 +44,17 @@ use Rattle.ty.proofs.Targets.{whole_bytes, whole_good, of_target}
 use Rattle.record.proofs.Places.{at_of}
 use Rattle.record.proofs.Equal.{both_ways, bytes_path, bytes_refl}
 use Rattle.ty.specs.Stands.{Whole}
+use Rattle.std.specs.declared.option.Option.TheVariants.{None, Some}
 
 -- "a type converts to itself (rank 0)"
 pub of_same : (j : Kind) (to : ℕ) → cond (eqb (kind_no j) to) (some 0) none ≡ of_kind none (from_same j) (kind_of to)
 unfolding from_same
 of_same j to = same j 0 (from_same j) (λ k. refl) to (kind_of to) refl
 
-rank_some : (o : Option ℕ) {n : ℕ} → At n ≡ rank_of o → true ≡ some? o
+some_rank : (o : Option ℕ) → is_some (rank_of o) ≡ some? o
 unfolding rank_of some?
-rank_some none e = absurd (let z : ◌≡◌ {A = ℕ} 0 1 = cc in omega arith)
-rank_some (some m) e = refl
-
-rank_none : (o : Option ℕ) → Never ≡ rank_of o → false ≡ some? o
-unfolding rank_of some?
-rank_none none e = refl
-rank_none (some m) e = absurd (let z : ◌≡◌ {A = ℕ} 0 1 = cc in omega arith)
+some_rank none = refl
+some_rank (some m) = refl
 
 pub between : {j k : ℕ} (a b : Kind) → j ≡ kind_no a → k ≡ kind_no b → rank_between j k ≡ kind_rank a b
 unfolding rank_between of_kind
@@ -159,7 +157,7 @@ module _ {a b : List ℕ} {t u : Ty} (w : Whole a t) (v : Whole b u) where
 
   -- ---- the rank, by what the code asks
 
-  pub rank_same : {r : Bool} → r ≡ same_bytes a b → r ≡ true → At 0 ≡ rank_of (rank t u)
+  pub rank_same : {r : Bool} → r ≡ same_bytes a b → r ≡ true → Some 0 ≡ rank_of (rank t u)
   unfolding rank rank_of
   rank_same p q = rw (sym equal ∙ (sym p ∙ q))
 
@@ -168,16 +166,16 @@ module _ {a b : List ℕ} {t u : Ty} (w : Whole a t) (v : Whole b u) where
     unfolding rank
     other = rw (sym equal ∙ (sym p ∙ q))
 
-    pub rank_from_struct : Blocked ≡ leaf_of (leaf t) → Never ≡ rank_of (rank t u)
+    pub rank_from_struct : None ≡ leaf_of (leaf t) → None ≡ rank_of (rank t u)
     unfolding leaf_rank rank_of
     rank_from_struct e = rw (other, struct_is (leaf t) e)
 
-    module _ {j : ℕ} (e : Bottom j ≡ leaf_of (leaf t)) where
-      pub rank_to_struct : Blocked ≡ leaf_of (leaf u) → Never ≡ rank_of (rank t u)
+    module _ {j : ℕ} (e : Some j ≡ leaf_of (leaf t)) where
+      pub rank_to_struct : None ≡ leaf_of (leaf u) → None ≡ rank_of (rank t u)
       unfolding leaf_rank rank_of
       rank_to_struct f = let x = kind_is j (leaf t) e in rw (other, x.is, struct_is (leaf u) f)
 
-      module _ {k : ℕ} (f : Bottom k ≡ leaf_of (leaf u)) {c : Bool} (o : c ≡ same_bytes (front a) (front b)) where
+      module _ {k : ℕ} (f : Some k ≡ leaf_of (leaf u)) {c : Bool} (o : c ≡ same_bytes (front a) (front b)) where
         shaped : rank t u ≡ cond c (rank_between j k) none
         shaped =
             let x = kind_is j (leaf t) e in
@@ -187,11 +185,11 @@ module _ {a b : List ℕ} {t u : Ty} (w : Whole a t) (v : Whole b u) where
         pub rank_shape : c ≡ true → rank_of (rank_between j k) ≡ rank_of (rank t u)
         rank_shape h = rw (shaped, h)
 
-        pub rank_no_shape : c ≡ false → Never ≡ rank_of (rank t u)
+        pub rank_no_shape : c ≡ false → None ≡ rank_of (rank t u)
         unfolding rank_of
         rank_no_shape h = rw (shaped, h)
 
-pub some_byte : {a : List ℕ} {t : Ty} {j : ℕ} → Whole a t → Bottom j ≡ leaf_of (leaf t) → 0 < length a
+pub some_byte : {a : List ℕ} {t : Ty} {j : ℕ} → Whole a t → Some j ≡ leaf_of (leaf t) → 0 < length a
 some_byte {t = t} {j} w e =
     let x = kind_is j (leaf t) e in
     let y = leaf_last t x.is in
@@ -199,23 +197,15 @@ some_byte {t = t} {j} w e =
 
 -- ---- answers
 
-pub rank_told : (o : Option ℕ) {n : ℕ} → At n ≡ rank_of o → ok n ≡ or_no 9 o
-unfolding rank_of
-rank_told none e = absurd (let z : ◌≡◌ {A = ℕ} 0 1 = cc in omega arith)
-rank_told (some m) {n} e = let z : n ≡ m = cc in rw z
+-- no rank is 9
+pub rank_told : (o : Option ℕ) {r : rust.Option ℕ} → r ≡ rank_of o → paper (ok_or r NoConversion) ≡ or_no 9 o
+unfolding rank_of paper
+rank_told none e = rw e refl
+rank_told (some m) e = rw e refl
 
-pub never_told : (o : Option ℕ) → Never ≡ rank_of o → no 9 ≡ or_no 9 o
-unfolding rank_of
-never_told none e = refl
-never_told (some m) e = absurd (let z : ◌≡◌ {A = ℕ} 0 1 = cc in omega arith)
-
-pub rank_converts : (t u : Ty) {n : ℕ} → At n ≡ rank_of (rank t u) → true ≡ converts t u
+pub rank_converts : (t u : Ty) {r : rust.Option ℕ} → r ≡ rank_of (rank t u) → is_some r ≡ converts t u
 unfolding converts
-rank_converts t u e = rank_some (rank t u) e
-
-pub never_converts : (t u : Ty) → Never ≡ rank_of (rank t u) → false ≡ converts t u
-unfolding converts
-never_converts t u e = rank_none (rank t u) e
+rank_converts t u e = rw e (some_rank (rank t u))
 
 module _ (s args : List ℕ) where
   pub of_answer : {t : Ty} → read_target s ≡ some (Of t) → rank_answer s args ≡ rank_read (Of t) args

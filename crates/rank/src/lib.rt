@@ -9,70 +9,57 @@ ghost use Rattle.meaning.specs.Entries.{rank_answer};
 ghost use Rattle.kind.specs.Ends.{of_kind, numbered};
 ghost use Rattle.record.specs.Bytes.{same_bytes};
 ghost use Rattle.ty.specs.Stands.{OneType};
-ghost use Rattle.rank.specs.Ranked.{rank_of, rank_between, RankIs, ConvertsIs, kinds_from, KindConverts, front, paper, RanksTo};
+ghost use Rattle.error.specs.Refusals.{paper};
+ghost use Rattle.rank.specs.Ranked.{rank_of, rank_between, RankIs, ConvertsIs, kinds_from, KindConverts, front, RanksTo};
 ghost use Rattle.rank.specs.Ranked.{RanksToRuntime};
 
 use error::Refusal;
 use kind::Scalar;
-use ty::{Leaf, Limit, Target};
-
-// The rank of a conversion between two kinds, if there is one.
-#[derive(Clone, Copy)]
-pub enum Rank {
-    At(u8),
-    Never,
-}
-
-// The answer of the entry `conversion_rank`: a rank, or the number of the refusal.
-#[derive(Clone, Copy)]
-pub enum Ranked {
-    Rank(u8),
-    Refused(u8),
-}
+use ty::{Limit, Target};
 
 // ---- ranks between kinds
 
 // "a type converts to itself (rank 0)"
-fn rank_of_same(from: u8, to: u8) -> Rank
+fn rank_of_same(from: u8, to: u8) -> Option<u8>
     ensures { result ≡ rank_of (cond (eqb from to) (some 0) none) }
 {
-    if from == to { Rank::At(0) } else { Rank::Never }
+    (from == to).then_some(0)
 }
 
 // "AbstractInt to I32 3, U32 4, AbstractFloat 5, F32 6, F16 7"
-fn rank_of_abstract_int(to: u8) -> Rank
+fn rank_of_abstract_int(to: u8) -> Option<u8>
     ensures { result ≡ rank_of (of_kind none from_aint (kind_of to)) }
 {
     match to {
-        Scalar::BOOL => Rank::Never,
-        Scalar::ABSTRACT_INT => Rank::At(0),
-        Scalar::ABSTRACT_FLOAT => Rank::At(5),
-        Scalar::I32 => Rank::At(3),
-        Scalar::U32 => Rank::At(4),
-        Scalar::F32 => Rank::At(6),
-        Scalar::F16 => Rank::At(7),
-        _ => Rank::Never,
+        Scalar::BOOL => None,
+        Scalar::ABSTRACT_INT => Some(0),
+        Scalar::ABSTRACT_FLOAT => Some(5),
+        Scalar::I32 => Some(3),
+        Scalar::U32 => Some(4),
+        Scalar::F32 => Some(6),
+        Scalar::F16 => Some(7),
+        _ => None,
     }
 }
 
 // "AbstractFloat to F32 1, F16 2"
-fn rank_of_abstract_float(to: u8) -> Rank
+fn rank_of_abstract_float(to: u8) -> Option<u8>
     ensures { result ≡ rank_of (of_kind none from_afloat (kind_of to)) }
 {
     match to {
-        Scalar::BOOL => Rank::Never,
-        Scalar::ABSTRACT_INT => Rank::Never,
-        Scalar::ABSTRACT_FLOAT => Rank::At(0),
-        Scalar::I32 => Rank::Never,
-        Scalar::U32 => Rank::Never,
-        Scalar::F32 => Rank::At(1),
-        Scalar::F16 => Rank::At(2),
-        _ => Rank::Never,
+        Scalar::BOOL => None,
+        Scalar::ABSTRACT_INT => None,
+        Scalar::ABSTRACT_FLOAT => Some(0),
+        Scalar::I32 => None,
+        Scalar::U32 => None,
+        Scalar::F32 => Some(1),
+        Scalar::F16 => Some(2),
+        _ => None,
     }
 }
 
 // The rank between two kinds (`conversion_rank` of conv.rs, of two scalar types). "Stage and kind choices: matches".
-pub fn kind_rank(from: u8, to: u8) -> Rank
+pub fn kind_rank(from: u8, to: u8) -> Option<u8>
     ensures { result ≡ rank_of (rank_between from to) }
 {
     match from {
@@ -83,7 +70,7 @@ pub fn kind_rank(from: u8, to: u8) -> Rank
         Scalar::U32 => rank_of_same(from, to),
         Scalar::F32 => rank_of_same(from, to),
         Scalar::F16 => rank_of_same(from, to),
-        _ => Rank::Never,
+        _ => None,
     }
 }
 
@@ -97,29 +84,25 @@ fn same_shape(a: &[u8], b: &[u8]) -> bool
 {
     let m = a.len() - 1;
     let n = b.len() - 1;
-    record::same_bytes(&a[..m], &b[..n])
+    a[..m] == b[..n]
 }
 
 // The rank of a conversion from the type a to the type b, each a whole record: "vectors, matrices and counted arrays of
 // equal shape convert as their elements do", and "structs convert only to an equal type".
-pub fn type_rank(a: &[u8], b: &[u8]) -> Rank
+pub fn type_rank(a: &[u8], b: &[u8]) -> Option<u8>
     requires one_type { OneType a.now }
     requires one_type_2 { OneType b.now }
     ensures { RankIs a.now b.now result }
 {
-    if record::same_bytes(a, b) {
-        return Rank::At(0);
+    if a == b {
+        return Some(0);
     }
-    let Leaf::Kind(j) = ty::leaf_at(a, 0, Limit::DEPTH) else {
-        return Rank::Never;
-    };
-    let Leaf::Kind(k) = ty::leaf_at(b, 0, Limit::DEPTH) else {
-        return Rank::Never;
-    };
+    let j = ty::leaf_at(a, 0, Limit::DEPTH)?;
+    let k = ty::leaf_at(b, 0, Limit::DEPTH)?;
     if same_shape(a, b) {
         return kind_rank(j, k);
     }
-    Rank::Never
+    None
 }
 
 // The kinds to which a scalar of a kind converts, a bit for each by its number: its own, from AbstractInt every kind
@@ -160,10 +143,7 @@ fn other_converts(a: &[u8], b: &[u8]) -> bool
     requires one_type_2 { OneType b.now }
     ensures { ConvertsIs a.now b.now result }
 {
-    match type_rank(a, b) {
-        Rank::At(_) => true,
-        Rank::Never => false,
-    }
+    type_rank(a, b).is_some()
 }
 
 // The same. Two scalars, as most are, by their kinds: a type of three bytes is a scalar.
@@ -181,40 +161,35 @@ pub fn type_converts(a: &[u8], b: &[u8]) -> bool
 }
 
 // The rank to the type that a well-formed target is, of the one type that the arguments have to be.
-fn rank_to(target: &[u8], args: &[u8]) -> Ranked
+fn rank_to(target: &[u8], args: &[u8]) -> Result<u8, Refusal>
     requires { OneType target.now }
     ensures { RanksTo target.now args.now result }
 {
     if !ty::is_type(args) {
-        return Ranked::Refused(Refusal::BAD_ARGUMENT);
+        return Err(Refusal::BadArgument);
     }
-    match type_rank(args, target) {
-        Rank::At(n) => Ranked::Rank(n),
-        Rank::Never => Ranked::Refused(Refusal::NO_CONVERSION),
-    }
+    type_rank(args, target).ok_or(Refusal::NoConversion)
 }
 
 // A runtime-sized array is the type of no value, so nothing has a rank to it.
-fn rank_to_runtime(args: &[u8]) -> Ranked
+fn rank_to_runtime(args: &[u8]) -> Result<u8, Refusal>
     ensures { RanksToRuntime args.now result }
 {
     if !ty::is_type(args) {
-        return Ranked::Refused(Refusal::BAD_ARGUMENT);
+        return Err(Refusal::BadArgument);
     }
-    Ranked::Refused(Refusal::NO_CONVERSION)
+    Err(Refusal::NoConversion)
 }
 
 // The source's `conversion_rank`: the rank of the conversion of the one type that the arguments are into the target.
 // Nothing is assumed of the bytes.
-pub fn conversion_rank(target: &[u8], args: &[u8]) -> Ranked
+pub fn conversion_rank(target: &[u8], args: &[u8]) -> Result<u8, Refusal>
     ensures { paper result ≡ rank_answer target.now args.now }
 {
-    match ty::read_target(target) {
+    let found = ty::read_target(target).ok_or(Refusal::BadTarget)?;
+    match found {
         Target::Type => rank_to(target, args),
         Target::Runtime => rank_to_runtime(args),
-        Target::Array => Ranked::Refused(Refusal::BAD_TARGET),
-        Target::Vector(_) => Ranked::Refused(Refusal::BAD_TARGET),
-        Target::Matrix(_, _) => Ranked::Refused(Refusal::BAD_TARGET),
-        Target::Bad => Ranked::Refused(Refusal::BAD_TARGET),
+        _ => Err(Refusal::BadTarget),
     }
 }

@@ -22,9 +22,10 @@ use Rattle.memory.proofs.Typed.{mem_typed, mem_shaped}
 use Rattle.ty.specs.Stands.{Whole}
 use Rattle.record.specs.Bytes.{Put}
 use Rattle.error.specs.Told.{Told}
-use Rattle.error.specs.declared.Written.TheVariants.{Record, Refused}
 use Rattle.error.proofs.BufferAtExit.{builds_long, builds_record}
 use Rattle.read_layout.specs.Memory.{read_by, Sized, Typed, value_from, ValueRoom}
+use Rattle.std.specs.declared.result.Result.TheVariants.{Ok, Err}
+use Rattle.error.specs.declared.Refusal.TheVariants.{NoRoom}
 
 -- ---- by the target
 
@@ -80,11 +81,11 @@ module _ {target pads mem : List ℕ} {t : Ty} (x : Sized target pads mem t) whe
       record { type = t; ty_end = length target; typed = sized_typed; within = omega (arith, x.size); room = omega (arith, read_long b) }
 
   -- the record, or 22
-  pub read_refused : (out : List ℕ) → length out < val_len t → Told (hand_val (length out) (mem_value t mem)) out (Refused 22) out
+  pub read_refused : (out : List ℕ) → length out < val_len t → Told (hand_val (length out) (mem_value t mem)) out (Err NoRoom) out
   read_refused out h = builds_long {x = ok (mem_value t mem)} out (mem_value t mem) refl (omega (arith, ap val_len read_typed))
 
   pub read_record : Bytes mem → {out out' : List ℕ} {r : ℕ} → val_len t ≤ length out → Put out 0 (value_from t mem 0) r out'
-      → Told (hand_val (length out) (mem_value t mem)) out (Record r) out'
+      → Told (hand_val (length out) (mem_value t mem)) out (Ok r) out'
   unfolding value_from
   read_record b {out} h y = builds_record {x = ok (mem_value t mem)} out (mem_value t mem) refl (read_shaped b)
       (omega (arith, ap val_len read_typed)) y

@@ -9,7 +9,6 @@ use Rattle.meaning.specs.Records.{‘V’, ‘v’}
 use Rattle.meaning.specs.Layout.{scalar_size, vec_align, col_stride}
 use Rattle.memory.proofs.RoundUp.{up_more, vec_align_lem}
 use Rattle.record.specs.Bytes.{Put}
-use Rattle.record.proofs.Left.{left_same}
 use Rattle.record.proofs.Puts.{put_put, put_length}
 use Rattle.read_layout.specs.Memory.{scalars_from, ScalarsRoom, ScalarsMoved, vector_from, VectorRoom, VectorMoved, columns_from}
 use Rattle.read_layout.specs.Memory.{ColumnsRoom}
@@ -54,22 +53,19 @@ unfolding columns_from
 columns_from_lem mem at n r j = refl
 
 abbrev pub ColumnsLeft : List ℕ → ℕ → ℕ → ℕ → ℕ → ℕ → List ℕ → ℕ → List ℕ → ℕ → ℕ → ℕ → Type 0
-ColumnsLeft mem at n r k pad out₀ to out i p left =
+ColumnsLeft mem at n r k pad out₀ to out i p done =
     (j : Kind) → k ≡ kind_no j → pad ≡ col_stride r j - r * scalar_size j
-    → Apart (vector_there r j) (col_stride r j) mem at n out₀ to out i p left
+    → Apart (vector_there r j) (col_stride r j) mem at n out₀ to out i p done
 
-pub columns_all : (mem : List ℕ) (at n r k pad : ℕ) (out : List ℕ) (to : ℕ) → ColumnsLeft mem at n r k pad out to out at to n
+pub columns_all : (mem : List ℕ) (at n r k pad : ℕ) (out : List ℕ) (to : ℕ) → ColumnsLeft mem at n r k pad out to out at to 0
 columns_all mem at n r k pad out to j e q = apart_all (vector_there r j) (col_stride r j) mem at n out to
 
-module _ {mem : List ℕ} {at n r k pad : ℕ} {out₀ : List ℕ} {to : ℕ} {out : List ℕ} {i p left : ℕ}
-    (g : ColumnsRoom mem at n r k pad out₀ to) (v : ColumnsLeft mem at n r k pad out₀ to out i p left) where
-  here : Apart (vector_there r g.kind) (col_stride r g.kind) mem at n out₀ to out i p left
+module _ {mem : List ℕ} {at n r k pad : ℕ} {out₀ : List ℕ} {to : ℕ} {out : List ℕ} {i p done : ℕ}
+    (g : ColumnsRoom mem at n r k pad out₀ to) (v : ColumnsLeft mem at n r k pad out₀ to out i p done) where
+  here : Apart (vector_there r g.kind) (col_stride r g.kind) mem at n out₀ to out i p done
   here = v g.kind g.no g.padding
 
-  pub columns_same : length out ≡ length out₀
-  columns_same = left_same here.rest
-
-  module _ (h : 0 < left) where
+  module _ (h : done < n) where
     pub column_room : VectorRoom mem i r k out p
     column_room =
         let j = g.kind in
@@ -87,9 +83,9 @@ module _ {mem : List ℕ} {at n r k pad : ℕ} {out₀ : List ℕ} {to : ℕ} {o
       pub column_within : from + skip ≤ length mem
       column_within = omega (arith, next g.kind g.no g.padding, apart_within here h g.within)
 
-      pub column_on : ColumnsLeft mem at n r k pad out₀ to out' (from + skip) q (left - 1)
+      pub column_on : ColumnsLeft mem at n r k pad out₀ to out' (from + skip) q (done + 1)
       column_on j e d = apart_on (v j e d) h (next j e d) (rw (vector_here mem i r j) (z j e).1)
 
-  pub columns_end : left ≡ 0 → (j : Kind) → k ≡ kind_no j → pad ≡ col_stride r j - r * scalar_size j
+  pub columns_end : done ≡ n → (j : Kind) → k ≡ kind_no j → pad ≡ col_stride r j - r * scalar_size j
       → (i ≡ at + n * col_stride r j) × Put out₀ to (columns_from mem at n r j) p out
   columns_end h j e d = rw (columns_from_lem mem at n r j) (apart_end (v j e d) h)

@@ -10,9 +10,9 @@ use Rattle.meaning.specs.Layout.{has_layout, scalar_size, col_stride, stride, si
 use Rattle.meaning.specs.Layout.{laid_type}
 use Rattle.record.specs.Bytes.{Put, Takes}
 use Rattle.error.specs.Told.{Told}
-use Rattle.error.specs.declared.Written.{Written}
 use Rattle.ty.specs.Stands.{Stands, StandAll, Whole}
 use Rattle.memory.specs.Padding.{Padded, PaddedAll}
+use Rattle.error.specs.Told.{Written}
 
 -- ---- scalars of one kind, a vector, and columns
 

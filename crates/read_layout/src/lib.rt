@@ -9,10 +9,9 @@ ghost use Rattle.read_layout.specs.Memory.{ScalarsRoom, ScalarsMoved, VectorRoom
 ghost use Rattle.read_layout.specs.Memory.{ElementsRoom, ElementsMoved, MembersRoom, MembersMoved, ValueRoom, ValueMoved};
 ghost use Rattle.read_layout.specs.Memory.{SomeSized, Reads, TypeTold};
 
-use error::{Refusal, Written};
-use layout::Extent;
+use error::Refusal;
 use memory::{Moved, Through};
-use ty::{Head, Len, Limit, Target};
+use ty::{Head, Limit, Target};
 
 // The literals of n scalars of the kind k that lie at `at`: a vector's, a column's, and an array's where it has scalars.
 fn read_scalars(mem: &[u8], at: usize, n: u16, k: u8, out: &mut [u8], to: usize) -> Through
@@ -22,11 +21,9 @@ fn read_scalars(mem: &[u8], at: usize, n: u16, k: u8, out: &mut [u8], to: usize)
     let size = memory::scalar_size(k);
     let mut i = at;
     let mut p = to;
-    let mut left = n;
-    while 0 < left {
+    for _ in 0..n {
         p = record::put_literal(out, p, k, record::number(mem, i, size));
         i += size;
-        left -= 1;
     }
     Through { from: i, out: p }
 }
@@ -37,7 +34,7 @@ fn read_vector(mem: &[u8], at: usize, n: u8, k: u8, out: &mut [u8], to: usize) -
     ensures { VectorMoved mem.now at n k out.old to result.from result.out out.new }
 {
     let p = record::put_three(out, to, b'V', b'v', n);
-    read_scalars(mem, at, record::count(n), k, out, p)
+    read_scalars(mem, at, u16::from(n), k, out, p)
 }
 
 // The n vectors of r scalars that lie at `at`, each with `pad` bytes of padding behind it, which are passed over: the
@@ -55,15 +52,13 @@ fn read_columns(
     requires { ColumnsRoom mem.now at n r k pad out.old to }
     ensures { ColumnsMoved mem.now at n r k pad out.old to result.from result.out out.new }
 {
-    let skip = record::wide(pad);
+    let skip = usize::from(pad);
     let mut i = at;
     let mut p = to;
-    let mut left = n;
-    while 0 < left {
+    for _ in 0..n {
         let w = read_vector(mem, i, r, k, out, p);
         i = w.from + skip;
         p = w.out;
-        left -= 1;
     }
     Through { from: i, out: p }
 }
@@ -87,17 +82,15 @@ fn each_element(
     ensures { ElementsMoved depth ty.now o n pad pads.now mem.now at out.old to result.ty
         result.from result.out out.new }
 {
-    let skip = record::wide(pad);
+    let skip = usize::from(pad);
     let mut end = o;
     let mut i = at;
     let mut p = to;
-    let mut left = n;
-    while 0 < left {
+    for _ in 0..n {
         let w = read_value(ty, o, pads, depth, mem, i, out, p);
         end = w.ty;
         i = w.from + skip;
         p = w.out;
-        left -= 1;
     }
     Moved {
         ty: end,
@@ -164,14 +157,12 @@ fn read_members(
     let mut q = o;
     let mut i = at;
     let mut p = to;
-    let mut left = n;
-    while 0 < left {
-        let start = i + record::wide(pads[q + 1]);
+    for _ in 0..n {
+        let start = i + usize::from(pads[q + 1]);
         let w = read_member(ty, q, pads, depth, mem, start, out, p);
         q = w.ty;
         i = w.from;
         p = w.out;
-        left -= 1;
     }
     Moved {
         ty: q,
@@ -215,7 +206,7 @@ fn read_value(
         }
         Head::Matrix(c, r, k) => {
             let p = record::put_four(out, to, b'V', b'm', c, r);
-            let w = read_columns(mem, at, record::count(c), r, k, pads[o], out, p);
+            let w = read_columns(mem, at, u16::from(c), r, k, pads[o], out, p);
             Moved {
                 ty: o + 7,
                 from: w.from,
@@ -231,7 +222,7 @@ fn read_value(
             let w = read_members(ty, o + 6, n, pads, depth - 1, mem, at, out, p);
             Moved {
                 ty: w.ty,
-                from: w.from + record::wide(pads[o]),
+                from: w.from + usize::from(pads[o]),
                 out: w.out,
             }
         }
@@ -277,54 +268,44 @@ fn read_member(
 // ---- the entry
 
 // The value of the type whose record the target is; the memory has its size.
-fn read_sized(target: &[u8], pads: &[u8], mem: &[u8], out: &mut [u8]) -> Written
+fn read_sized(target: &[u8], pads: &[u8], mem: &[u8], out: &mut [u8]) -> Result<usize, Refusal>
     requires { SomeSized target.now pads.now mem.now }
     ensures { Reads target.now pads.now mem.now out.old result out.new }
 {
-    match ty::value_len(target, 0, Limit::DEPTH) {
-        Len::Is(_, n) => {
-            if n > out.len() {
-                return Written::Refused(Refusal::NO_ROOM);
-            }
-            let w = read_value(target, 0, pads, Limit::DEPTH, mem, 0, out, 0);
-            Written::Record(w.out)
-        }
-        Len::TooLong => Written::Refused(Refusal::NO_ROOM),
+    let (_, n) = ty::value_len(target, 0, Limit::DEPTH).ok_or(Refusal::NoRoom)?;
+    if n > out.len() {
+        return Err(Refusal::NoRoom);
     }
+    let w = read_value(target, 0, pads, Limit::DEPTH, mem, 0, out, 0);
+    Ok(w.out)
 }
 
 // By a type, whose record the target is.
-fn read_type(target: &[u8], mem: &[u8], out: &mut [u8]) -> Written
+fn read_type(target: &[u8], mem: &[u8], out: &mut [u8]) -> Result<usize, Refusal>
     requires { OneType target.now × (length target.now ≤ 4096) }
     ensures { TypeTold target.now mem.now out.old result out.new }
 {
     if !layout::has_layout(target) {
-        return Written::Refused(Refusal::NO_LAYOUT);
+        return Err(Refusal::NoLayout);
     }
     let mut pads = [0u8; Limit::TYPE_BYTES];
-    match layout::measure(target, &mut pads) {
-        Extent::Is(_, size, _) => {
-            if size != mem.len() {
-                return Written::Refused(Refusal::MEMORY_SIZE);
-            }
-            read_sized(target, &pads, mem, out)
-        }
-        Extent::TooLong => Written::Refused(Refusal::MEMORY_SIZE),
+    let extent = layout::measure(target, &mut pads).ok_or(Refusal::MemorySize)?;
+    if extent.size != mem.len() {
+        return Err(Refusal::MemorySize);
     }
+    read_sized(target, &pads, mem, out)
 }
 
 // The value that the bytes in memory are, read by the type whose record the target is: its record at the front of the
 // buffer. Nothing is assumed of the bytes; a refusal leaves the lent buffer as it was.
-pub fn read_layout(target: &[u8], memory: &[u8], out: &mut [u8]) -> Written
+pub fn read_layout(target: &[u8], memory: &[u8], out: &mut [u8]) -> Result<usize, Refusal>
     ensures { Told (read_answer target.now memory.now (length out.old)) out.old result
         out.new }
 {
-    match ty::read_target(target) {
+    let found = ty::read_target(target).ok_or(Refusal::BadTarget)?;
+    match found {
         Target::Type => read_type(target, memory, out),
-        Target::Runtime => Written::Refused(Refusal::NO_LAYOUT),
-        Target::Array => Written::Refused(Refusal::BAD_TARGET),
-        Target::Vector(_) => Written::Refused(Refusal::BAD_TARGET),
-        Target::Matrix(_, _) => Written::Refused(Refusal::BAD_TARGET),
-        Target::Bad => Written::Refused(Refusal::BAD_TARGET),
+        Target::Runtime => Err(Refusal::NoLayout),
+        _ => Err(Refusal::BadTarget),
     }
 }

@@ -1,7 +1,7 @@
 -- What a loop has left to write: what writes the rest makes the whole.
 use mathlib.Core.Path.{◌≡◌, refl, sym, ap, ◌∙◌}
 use mathlib.Core.List.{List, [], ◌++◌}
-use Prim.Native.Nat.{ℕ, zero, suc, ◌+◌, ◌-◌, ◌<◌}
+use Prim.Native.Nat.{ℕ, suc, ◌+◌, ◌-◌, ◌<◌}
 use native.Mathlib.Omega.{arith}
 use lib.ListN.{length, length-append}
 use lib.Seq.{length-sets}
@@ -35,27 +35,30 @@ module _ {out₀ : List ℕ} {to : ℕ} {whole out : List ℕ} {p : ℕ} {rest :
   pub left_same : length out ≡ length out₀
   left_same = sym (length-sets out p rest) ∙ (ap length (g.makes _ _ record { end = refl; left = refl }).left ∙ length-sets out₀ to whole)
 
--- ---- copies: of n copies of b, `left` are left
+-- ---- copies: of n copies of b, i are written
 
-pub record Copies (b : List ℕ) (n : ℕ) (out₀ : List ℕ) (to : ℕ) (out : List ℕ) (p left : ℕ) : Type 0 where
-  pub rest : Left out₀ to (times n b) out p (times left b)
+pub record Copies (b : List ℕ) (n : ℕ) (out₀ : List ℕ) (to : ℕ) (out : List ℕ) (p i : ℕ) : Type 0 where
+  pub rest : Left out₀ to (times n b) out p (times (n - i) b)
 
-step : (n : ℕ) (b : List ℕ) → 0 < n → times n b ≡ b ++ times (n - 1) b
+-- of n, one less is left
+pub one_less : (n i : ℕ) → n - i - 1 ≡ n - (i + 1)
+one_less n i = omega arith
+
+next : (n i : ℕ) (b : List ℕ) → i < n → times (n - i) b ≡ b ++ times (n - (i + 1)) b
 unfolding times
-step zero b h = absurd (omega arith)
-step (suc n) b h = let e : suc n - 1 ≡ n = omega arith in rw e
+next n i b h = let e : n - i ≡ suc (n - (i + 1)) = omega arith in rw e
 
-pub copies_all : (b : List ℕ) (n : ℕ) (out : List ℕ) (to : ℕ) → Copies b n out to out to n
-copies_all b n out to = record { rest = left_all out to (times n b) }
+pub copies_all : (b : List ℕ) (n : ℕ) (out : List ℕ) (to : ℕ) → Copies b n out to out to 0
+copies_all b n out to = let e : n - 0 ≡ n = omega arith in record { rest = rw e (left_all out to (times n b)) }
 
-module _ {b : List ℕ} {n : ℕ} {out₀ : List ℕ} {to : ℕ} {out : List ℕ} {p left : ℕ} (g : Copies b n out₀ to out p left) where
-  module _ (h : 0 < left) where
+module _ {b : List ℕ} {n : ℕ} {out₀ : List ℕ} {to : ℕ} {out : List ℕ} {p i : ℕ} (g : Copies b n out₀ to out p i) where
+  module _ (h : i < n) where
     pub copies_room : Takes out to (times n b) → Takes out p b
-    copies_room l = left_room g.rest b (times (left - 1) b) (step left b h) l
+    copies_room l = left_room g.rest b (times (n - (i + 1)) b) (next n i b h) l
 
-    pub copies_on : {q : ℕ} {out' : List ℕ} → Put out p b q out' → Copies b n out₀ to out' q (left - 1)
-    copies_on y = record { rest = left_on g.rest b (times (left - 1) b) (step left b h) y }
+    pub copies_on : {q : ℕ} {out' : List ℕ} → Put out p b q out' → Copies b n out₀ to out' q (i + 1)
+    copies_on y = record { rest = left_on g.rest b (times (n - (i + 1)) b) (next n i b h) y }
 
-  pub copies_end : left ≡ 0 → Put out₀ to (times n b) p out
+  pub copies_end : i ≡ n → Put out₀ to (times n b) p out
   unfolding times
-  copies_end h = left_end g.rest (rw h)
+  copies_end h = let e : n - i ≡ 0 = omega arith in left_end g.rest (rw e)

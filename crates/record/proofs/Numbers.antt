@@ -5,8 +5,9 @@ use mathlib.Core.List.{List, [], ◌∷◌, ◌++◌}
 use Prim.Native.Nat.{ℕ, zero, suc, ◌+◌, ◌*◌, ◌/◌, ◌%◌, ◌^◌, ◌≤◌, ◌<◌}
 use native.Mathlib.Omega.{arith}
 use native.Mathlib.Numerals.{add-one}
-use native.Mathlib.Nat.{add-zero, pow-suc}
+use native.Mathlib.Nat.{add-zero, pow-suc, div-one, div-div-eq-div-mul}
 use lib.Dec.{T, eqb, eqb→eq}
+use Rattle.std.specs.Int.{bytes_low_first}
 use lib.ListN.{length, get_or, drop}
 use lib.Seq.{drop-cons}
 use Rattle.meaning.specs.Records.{le}
@@ -48,34 +49,17 @@ number_of s rest at (suc w) p h l =
     let q : p / 256 < 256 ^ w = let m : p < 256 ^ w * 256 = rw pow-suc at l in omega arith in
     omega (arith, number_of s rest (suc at) w (p / 256) d q)
 
--- ---- of two, four and eight bytes
+-- ---- as the library writes them
 
-module _ (s : List ℕ) (at : ℕ) where
-  pub number_one : number_at s at 1 ≡ get_or s at 0
-  unfolding number_at
-  number_one = omega arith
+low_first : (w i n : ℕ) → le w (n / 256 ^ i) ≡ bytes_low_first i w n
+unfolding le
+low_first zero i n = refl
+low_first (suc w) zero n = rw (div-one n, low_first w 1 n)
+low_first (suc w) (suc i) n = rw (div-div-eq-div-mul, ← pow-suc 256 (suc i), low_first w (suc (suc i)) n)
 
-  pub number_two : number_at s at 2 ≡ get_or s at 0 + 256 * get_or s (at + 1) 0
-  unfolding number_at
-  number_two = rw (add-one at) (omega arith)
-
-  pub number_four : number_at s at 4 ≡ number_at s at 2 + 65536 * number_at s (at + 2) 2
-  unfolding number_at
-  number_four = let e : at + 2 ≡ suc (suc at) = omega arith in rw e (omega arith)
-
-  pub number_eight : number_at s at 8 ≡ number_at s at 4 + 4294967296 * number_at s (at + 4) 4
-  unfolding number_at
-  number_eight = let e : at + 4 ≡ suc (suc (suc (suc at))) = omega arith in rw e (omega arith)
-
--- the bytes of a number, the lower half first
-module _ (n : ℕ) where
-  pub le_four : le 4 n ≡ le 2 n ++ le 2 (n / 65536)
-  unfolding le
-  le_four = let e : n / 65536 ≡ n / 256 / 256 = omega arith in rw e
-
-  pub le_eight : le 8 n ≡ le 4 n ++ le 4 (n / 4294967296)
-  unfolding le
-  le_eight = let e : n / 4294967296 ≡ n / 256 / 256 / 256 / 256 = omega arith in rw e
+-- its bytes, as the library has them
+pub le_is : (w n : ℕ) → le w n ≡ bytes_low_first 0 w n
+le_is w n = ap (le w) (sym (div-one n)) ∙ low_first w 0 n
 
 -- ---- the widths
 
@@ -92,9 +76,6 @@ each_width P a b c d e w =
     or_else P w 8 _ a (or_else P w 4 _ b (or_else P w 2 _ c (or_else P w 1 _ d (λ h. subst P (sym (eqb→eq w 0 h)) e))))
 
 module _ (w : ℕ) (h : Width w) where
-  pub width_few : w ≤ 8
-  width_few = each_width (λ n. n ≤ 8) (omega arith) (omega arith) (omega arith) (omega arith) (omega arith) w h
-
   -- by the order of the widths
   pub width_eight : 4 < w → w ≡ 8
   width_eight = each_width (λ n. 4 < n → n ≡ 8) (λ q. omega arith) (λ q. omega arith) (λ q. omega arith) (λ q. omega arith)

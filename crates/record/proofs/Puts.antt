@@ -1,12 +1,13 @@
 -- Bytes stored one after another, and that they stand there.
 use mathlib.Core.Path.{◌≡◌, refl, sym, ap, ◌∙◌}
 use mathlib.Core.List.{List, [], ◌∷◌, ◌++◌, append_assoc}
-use Prim.Native.Nat.{ℕ, suc, ◌+◌, ◌-◌, ◌≤◌, ◌<◌}
+use Prim.Native.Nat.{ℕ, suc, ◌+◌, ◌-◌}
 use native.Mathlib.Omega.{arith}
 use native.Mathlib.Numerals.{add-one}
 use native.Mathlib.Nat.{add-zero, add_assoc, add-suc, suc-add}
-use lib.ListN.{length, get_or, take, drop, set, length-append}
-use lib.Seq.{drop-cons, sets, length-sets, sets-eq, drop_at, length-take-le}
+use borrow.Rule.Slice.PartMut.{put_mid}
+use lib.ListN.{length, take, drop, set, length-append}
+use lib.Seq.{drop-drop, sets, length-sets, sets-eq, drop_at, length-take-le}
 use Rattle.record.specs.Bytes.{Starts, Takes, Put}
 use Rattle.record.proofs.Places.{past}
 
@@ -51,9 +52,11 @@ module _ {out : List ℕ} {to : ℕ} {bs : List ℕ} {r : ℕ} {out' : List ℕ}
             (arith, put_length);
       }
 
--- what is left of a part to be copied
-pub copy_step : (s : List ℕ) (i e : ℕ) → i < e → e ≤ length s → take (e - i) (drop i s) ≡ get_or s i 0 ∷ take (e - (i + 1)) (drop (i + 1) s)
-copy_step s i e h l =
-    let n : e - i ≡ suc (e - (i + 1)) = omega arith in
-    let k : i < length s = omega arith in
-    rw (n, add-one i, drop-cons s i 0 k)
+-- a part overwritten as a whole
+pub put_part : {out bs ys : List ℕ} {to r : ℕ} → Takes out to bs → r ≡ to + length bs → ys ≡ bs → Put out to bs r (put_mid to (r - to) out ys)
+put_part {out = out} {bs = bs} {to = to} {r = r} h e f =
+    let k : r - to ≡ length bs = omega arith in
+    record {
+      end = e;
+      left = rw (k, f, sets-eq bs out to h, append_assoc, drop-drop);
+    }

@@ -1,10 +1,10 @@
 // The pieces that records are made of: little-endian numbers read and written, marks, copies, and a literal's record.
 #![tactic(auto)]
 
-ghost use Rattle.std.specs.Prelude.{◌≡◌, [], ◌∷◌, ◌≤◌, ◌<◌, ◌+◌, ◌-◌, ◌*◌, ◌/◌, ◌%◌, length, get_or, take, drop};
+ghost use Rattle.std.specs.Prelude.{◌≡◌, [], ◌∷◌, ◌≤◌, ◌+◌, ◌-◌, ◌*◌, ◌/◌, ◌%◌, length, get_or, take, drop};
 ghost use Rattle.meaning.specs.Trees.{lit_len};
 ghost use Rattle.meaning.specs.Records.{‘V’, le};
-ghost use Rattle.record.specs.Bytes.{Decides, Starts, same_bytes, Width, number_at, Takes, Put, times};
+ghost use Rattle.record.specs.Bytes.{Decides, Starts, Width, number_at, Takes, Put, times};
 ghost use Rattle.record.specs.Fronts.{array_front, struct_front};
 ghost use Rattle.record.specs.Literals.{width_of, literal_of, Sized, most_lit};
 
@@ -35,76 +35,30 @@ pub fn two_at(s: &[u8], at: usize, a: u8, b: u8) -> bool
     s[at + 1] == b
 }
 
-// Whether two byte strings are equal.
-pub fn same_bytes(a: &[u8], b: &[u8]) -> bool
-    ensures { result ≡ same_bytes a.now b.now }
-{
-    if a.len() != b.len() {
-        return false;
-    }
-    let mut i = 0;
-    while i < a.len() {
-        if a[i] != b[i] {
-            return false;
-        }
-        i += 1;
-    }
-    true
-}
-
 // ---- numbers read, the low byte first
 
-// A byte as a count, and as a count of at most 65,535; such a count as a length; the low byte and the high byte of it.
-pub fn wide(x: u8) -> usize
-    ensures { (result ≡ x) × (result < 256) }
-{
-    x as usize
-}
-
-pub fn count(x: u8) -> u16
-    ensures { result ≡ x }
-{
-    x as u16
-}
-
-pub fn size(n: u16) -> usize
-    ensures { result ≡ n }
-{
-    n as usize
-}
-
+// The low byte and the high byte of a count.
 pub fn low(n: u16) -> u8
     ensures { result ≡ n % 256 }
 {
-    (n % 256) as u8
+    n.to_le_bytes()[0]
 }
 
 pub fn high(n: u16) -> u8
     ensures { result ≡ n / 256 % 256 }
 {
-    (n / 256) as u8
+    n.to_le_bytes()[1]
 }
 
-// The number whose low byte is lo and whose high byte is hi; the same of two numbers of two bytes, and of two of four.
+// The number whose low byte is lo and whose high byte is hi.
 pub fn join(lo: u8, hi: u8) -> u16
     ensures { result ≡ lo + 256 * hi }
 {
-    (lo as u16) + 256 * (hi as u16)
-}
-
-fn join_two(lo: u16, hi: u16) -> u32
-    ensures { result ≡ lo + 65536 * hi }
-{
-    (lo as u32) + 65536 * (hi as u32)
-}
-
-fn join_four(lo: u32, hi: u32) -> u64
-    ensures { result ≡ lo + 4294967296 * hi }
-{
-    (lo as u64) + 4294967296 * (hi as u64)
+    u16::from_le_bytes([lo, hi])
 }
 
 // The numbers of two, four and eight bytes. None has a loop, so that the compiler makes one load of each.
+#[tactic(auto, unfolding(crate::specs::Bytes::number_at))]
 pub fn two(s: &[u8], at: usize) -> u16
     requires { at + 2 ≤ length s.now }
     ensures { result ≡ number_at s.now at 2 }
@@ -112,18 +66,29 @@ pub fn two(s: &[u8], at: usize) -> u16
     join(s[at], s[at + 1])
 }
 
+#[tactic(auto, unfolding(crate::specs::Bytes::number_at))]
 fn four(s: &[u8], at: usize) -> u32
     requires { at + 4 ≤ length s.now }
     ensures { result ≡ number_at s.now at 4 }
 {
-    join_two(two(s, at), two(s, at + 2))
+    u32::from_le_bytes([s[at], s[at + 1], s[at + 2], s[at + 3]])
 }
 
+#[tactic(auto, unfolding(crate::specs::Bytes::number_at))]
 fn eight(s: &[u8], at: usize) -> u64
     requires { at + 8 ≤ length s.now }
     ensures { result ≡ number_at s.now at 8 }
 {
-    join_four(four(s, at), four(s, at + 4))
+    u64::from_le_bytes([
+        s[at],
+        s[at + 1],
+        s[at + 2],
+        s[at + 3],
+        s[at + 4],
+        s[at + 5],
+        s[at + 6],
+        s[at + 7],
+    ])
 }
 
 // The number of the w bytes from `at` on. The widths are told apart by their order, the widest first: told apart one by
@@ -142,7 +107,7 @@ pub fn number(s: &[u8], at: usize, w: usize) -> u64
         return two(s, at) as u64;
     }
     if w > 0 {
-        return wide(s[at]) as u64;
+        return s[at] as u64;
     }
     0
 }
@@ -183,70 +148,43 @@ pub fn put_four(out: &mut [u8], to: usize, a: u8, b: u8, c: u8, d: u8) -> usize
     put_pair(out, p, c, d)
 }
 
+// A byte string, and the place behind it.
+pub fn put_bytes(out: &mut [u8], to: usize, bytes: &[u8]) -> usize
+    requires { Takes out.old to bytes.now }
+    ensures { Put out.old to bytes.now result out.new }
+{
+    let end = to + bytes.len();
+    out[to..end].copy_from_slice(bytes);
+    end
+}
+
 // The bytes from `from` up to `end`.
 pub fn copy(src: &[u8], from: usize, end: usize, out: &mut [u8], to: usize) -> usize
     requires { (from ≤ end) × (end ≤ length src.now) × (to + (end - from) ≤ length out.old) }
     ensures { Put out.old to (take (end - from) (drop from src.now)) result out.new }
 {
-    let mut i = from;
-    let mut p = to;
-    while i < end {
-        out[p] = src[i];
-        i += 1;
-        p += 1;
-    }
-    p
+    put_bytes(out, to, &src[from..end])
 }
 
 // ---- numbers written, the low byte first
 
-// The lowest byte.
-fn lowest(n: u64) -> u8
-    ensures { result ≡ n % 256 }
-{
-    (n % 256) as u8
-}
-
-// The two, four and eight lowest bytes. None has a loop, so that the compiler makes one store of each.
-fn le_two(out: &mut [u8], to: usize, n: u64) -> usize
-    requires { to + 2 ≤ length out.old }
-    ensures { Put out.old to (le 2 n) result out.new }
-{
-    put_pair(out, to, lowest(n), lowest(n / 256))
-}
-
-fn le_four(out: &mut [u8], to: usize, n: u64) -> usize
-    requires { to + 4 ≤ length out.old }
-    ensures { Put out.old to (le 4 n) result out.new }
-{
-    let p = le_two(out, to, n);
-    le_two(out, p, n / 65536)
-}
-
-fn le_eight(out: &mut [u8], to: usize, n: u64) -> usize
-    requires { to + 8 ≤ length out.old }
-    ensures { Put out.old to (le 8 n) result out.new }
-{
-    let p = le_four(out, to, n);
-    le_four(out, p, n / 4294967296)
-}
-
-// The w lowest bytes of n.
+// The w lowest bytes of n. Each width is written by itself, so that the compiler makes one store of it.
 pub fn put_le(out: &mut [u8], to: usize, w: usize, n: u64) -> usize
     requires { Width w × (to + w ≤ length out.old) }
     ensures { Put out.old to (le w n) result out.new }
 {
+    let bytes = n.to_le_bytes();
     if w > 4 {
-        return le_eight(out, to, n);
+        return put_bytes(out, to, &bytes);
     }
     if w > 2 {
-        return le_four(out, to, n);
+        return put_bytes(out, to, &bytes[..4]);
     }
     if w > 1 {
-        return le_two(out, to, n);
+        return put_bytes(out, to, &bytes[..2]);
     }
     if w > 0 {
-        return put_byte(out, to, lowest(n));
+        return put_byte(out, to, bytes[0]);
     }
     to
 }
@@ -321,10 +259,8 @@ pub fn put_literals(n: u8, k: u8, bits: u64, out: &mut [u8], to: usize) -> usize
     ensures { Put out.old to (times n (literal_of k bits)) result out.new }
 {
     let mut p = to;
-    let mut left = n;
-    while 0 < left {
+    for _ in 0..n {
         p = put_literal(out, p, k, bits);
-        left -= 1;
     }
     p
 }

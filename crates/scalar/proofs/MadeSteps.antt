@@ -16,18 +16,28 @@ use Rattle.laws.proofs.AgreeConv.{true_of}
 use Rattle.laws.proofs.Length.{lit_len_lem}
 use Rattle.laws.proofs.Named.{ok_inj, no_ok}
 use Rattle.kind.specs.Ends.{of_kind}
-use Rattle.literal.specs.LiteralAnswers.{paper, ctor_from, ctor_to}
-use Rattle.literal.specs.declared.Made.{Made}
+use Rattle.literal.specs.LiteralAnswers.{Made, paper, ctor_from, ctor_to}
 use Rattle.literal.specs.declared.Rules.{Rules}
-use Rattle.literal.specs.declared.Made.TheVariants.{Of, NoTarget, NoArgument, Abstract, Integer, Float}
+use Rattle.literal.specs.declared.Unmade.TheVariants.{NoTarget, NoArgument, Abstract, Integer, Float}
+use Rattle.std.specs.declared.result.Result.TheVariants.{Ok, Err}
 use Rattle.record.proofs.Places.{at_of}
 use Rattle.record.specs.Bytes.{Put}
 use Rattle.conv.specs.Items.{Item, Literal, Vector, Matrix, Array, item_bytes, ItemAt}
 use Rattle.record.specs.Literals.{width_of, literal_of}
 use Rattle.conv.proofs.ItemSteps.{LiteralIs, literal_here, mark_stays, mark_put}
 use Rattle.record.proofs.Literals.{width_of_lem, literal_bytes}
-use Rattle.scalar.specs.Made.{make_item, Ctor, MadeAt}
+use Rattle.scalar.specs.Made.{make_item, Ctor, MadeAt, number_in}
 use Rattle.laws.proofs.Each.{refusal_map}
+
+-- an answer's number is the paper's
+number_is : (r : Made) → number_in r ≡ refusal_of (paper r)
+unfolding refusal_of paper
+number_is (Ok p) = refl
+number_is (Err NoTarget) = refl
+number_is (Err NoArgument) = refl
+number_is (Err Abstract) = refl
+number_is (Err Integer) = refl
+number_is (Err Float) = refl
 
 -- ---- a mark stays as it is
 
@@ -76,26 +86,26 @@ module _ {src : List ℕ} {i : ℕ} {a : Item} (w : ItemAt src i a) where
     unfolding make_item
     item_of = let l = literal_here w m in ap (make_item s j) l.is ∙ ap (λ (y : Result ℕ). y >>= λ q. ok (Literal j q)) (ctor_of l)
 
-    pub literal_refusal : refusal_of (paper r) ≡ refusal_of (make_item s j a)
-    literal_refusal = sym (ap refusal_of item_of ∙ refusal_map (paper r) (Literal j))
+    pub literal_refusal : number_in r ≡ refusal_of (make_item s j a)
+    literal_refusal = number_is r ∙ sym (ap refusal_of item_of ∙ refusal_map (paper r) (Literal j))
 
     module _ {b : Item} (g : make_item s j a ≡ ok b) where
       -- an item that goes through has a payload made
-      pub literal_made : (p : ℕ) × (r ≡ Of p) × (b ≡ Literal j p)
+      pub literal_made : (p : ℕ) × (r ≡ Ok p) × (b ≡ Literal j p)
       unfolding paper
       literal_made = go r (sym item_of ∙ g)
         where
-          go : (r : Made) → (paper r >>= λ q. ok (Literal j q)) ≡ ok b → (p : ℕ) × (r ≡ Of p) × (b ≡ Literal j p)
-          go (Of p) h = (p, refl, sym (ok_inj h))
-          go NoTarget h = no_ok h
-          go NoArgument h = no_ok h
-          go Abstract h = no_ok h
-          go Integer h = no_ok h
-          go Float h = no_ok h
+          go : (r : Made) → (paper r >>= λ q. ok (Literal j q)) ≡ ok b → (p : ℕ) × (r ≡ Ok p) × (b ≡ Literal j p)
+          go (Ok p) h = (p, refl, sym (ok_inj h))
+          go (Err NoTarget) h = no_ok h
+          go (Err NoArgument) h = no_ok h
+          go (Err Abstract) h = no_ok h
+          go (Err Integer) h = no_ok h
+          go (Err Float) h = no_ok h
 
-      module _ {p : ℕ} (h : r ≡ Of p) where
+      module _ {p : ℕ} (h : r ≡ Ok p) where
         into : b ≡ Literal j p
-        into = let y = literal_made in let u : Of y.0 ≡ Of p = sym y.1 ∙ h in let v : y.0 ≡ p = cc in y.2 ∙ ap (Literal j) v
+        into = let y = literal_made in let u : ◌≡◌ {A = Made} (Ok y.0) (Ok p) = sym y.1 ∙ h in let v : y.0 ≡ p = cc in y.2 ∙ ap (Literal j) v
 
         pub literal_room : (to : ℕ) {most : ℕ} → to + length (item_bytes b) ≤ most → to + (3 + width_of k) ≤ most
         unfolding item_bytes lit_len

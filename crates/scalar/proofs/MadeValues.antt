@@ -22,12 +22,19 @@ use Rattle.laws.proofs.Back.{and_r}
 use Rattle.laws.proofs.BackVal.{drop_len, take_len}
 use Rattle.laws.proofs.Named.{ok_inj}
 use Rattle.literal.specs.declared.Rules.{Rules}
+use Rattle.literal.specs.declared.Unmade.{Unmade}
+use Rattle.literal.specs.declared.Unmade.TheVariants.{NoTarget, NoArgument, Abstract, Integer, Float}
+use Rattle.literal.specs.LiteralAnswers.{refusal_for}
+use Rattle.error.specs.Refusals.{number, refusal}
+use Rattle.std.specs.declared.result.Result.{Result as Outcome}
+use Rattle.std.specs.declared.result.Result.TheVariants.{Ok, Err}
+use Rattle.scalar.proofs.MadeLeft.{some_number}
 use Rattle.record.specs.Bytes.{Put}
 use Rattle.conv.specs.Items.{Item, Literal, Vector, Matrix, bytes_of, column_items, items_of, ItemsAt, SomeItems}
 use Rattle.record.specs.Values.{HasVal}
 use Rattle.conv.specs.Values.{plain}
 use Rattle.conv.proofs.Values.{items_bytes, items_good, items_at}
-use Rattle.scalar.specs.Made.{make_item, make_items, Ctor, AllMade, Makeable, Makes}
+use Rattle.scalar.specs.Made.{make_item, make_items, Ctor, AllMade, Makeable, Makes, number_in}
 use Rattle.laws.proofs.Each.{Numbered, number_ok, number_no, refusal_map, all_numbered, all_length, all_append}
 use Rattle.scalar.proofs.Results.{ctor_numbered}
 
@@ -124,6 +131,14 @@ module _ (s : Stage) (k j : Kind) where
       unfolding shaped_val
       mat_shaped c r h = full k qs (c * r) lits_made.0 (lits_made.1 ∙ h)
 
+-- a constructor's refusal has a number alone
+pub refusal_no : {A : Type 0} (u : Unmade) → refusal {A = A} (refusal_for u) ≡ no (number (refusal_for u))
+refusal_no NoTarget = refl
+refusal_no NoArgument = refl
+refusal_no Abstract = refl
+refusal_no Integer = refl
+refusal_no Float = refl
+
 -- ---- a value whose record stands in src, as it is made
 
 -- x is what the constructor answers of its payloads, and `value` the value of the payloads made
@@ -167,16 +182,18 @@ module _ {s : Stage} {k : Kind} {src : List ℕ} {from e : ℕ} {A : Type 0} {x 
   making_items = record { items = m.items; stands = m.stands }
 
   module _ {rules : Rules} {kind : ℕ} (c : Ctor rules kind s k) where
-    module _ {r : ℕ} (f : AllMade rules kind src from e r) where
-      refusal_is : r ≡ refusal_of x
+    module _ (r : Outcome (Unit {0}) Unmade) (f : AllMade rules kind src from e r) where
+      refusal_is : number_in r ≡ refusal_of x
       refusal_is = f s k m.items c m.stands ∙ (ap refusal_of m.makes ∙ refusal_map x (λ a. items_of (value a)))
 
       -- what `all_made` says: something is made of all, or r is the refusal
-      pub making_ok : r ≡ 0 → (b : A) × (x ≡ ok b)
-      making_ok z = number_ok x m.numbered (sym refusal_is ∙ z)
+      pub making_ok : {u : Unit {0}} → r ≡ Ok u → (b : A) × (x ≡ ok b)
+      making_ok z = number_ok x m.numbered (sym refusal_is ∙ ap number_in z)
 
-      pub making_no : (r ≡ 0 → ⊥) → x ≡ no r
-      making_no z = number_no x m.numbered (λ u. z (refusal_is ∙ u)) ∙ ap no (sym refusal_is)
+      pub making_no : {u : Unmade} → r ≡ Err u → x ≡ refusal (refusal_for u)
+      making_no {u} z =
+          let n : number (refusal_for u) ≡ refusal_of x = sym (ap number_in z) ∙ refusal_is in
+          number_no x m.numbered (λ v. some_number u (n ∙ v)) ∙ (ap no (sym n) ∙ sym (refusal_no u))
 
     -- what `write_made` is asked, and what it writes
     module _ {b : A} (q : x ≡ ok b) where

@@ -15,9 +15,10 @@ use Rattle.meaning.specs.Build.{ctor_lit, scalar_of, build_one}
 use Rattle.laws.proofs.AgreeLit.{kind_back}
 use Rattle.laws.proofs.AgreeConv.{true_of}
 use Rattle.kind.specs.Ends.{of_kind, tested}
-use Rattle.literal.specs.LiteralAnswers.{paper}
-use Rattle.literal.specs.declared.Made.{Made}
-use Rattle.literal.specs.declared.Made.TheVariants.{Of}
+use Rattle.literal.specs.LiteralAnswers.{Made, refusal_for, paper}
+use Rattle.literal.specs.declared.Unmade.{Unmade}
+use Rattle.error.specs.Refusals.{refusal}
+use Rattle.error.proofs.Refusals.{no_more}
 use Rattle.literal.specs.declared.Rules.{Rules}
 use Rattle.record.specs.Literals.{Sized, most_lit, width_of, literal_of}
 use Rattle.record.proofs.Places.{at_of}
@@ -27,40 +28,34 @@ use Rattle.record.proofs.Literals.{width_of_lem, literal_bytes}
 use Rattle.conv.proofs.ItemSteps.{literal_here, literal_within}
 use Rattle.args.specs.Row.{Row}
 use Rattle.error.specs.Told.{Builds}
-use Rattle.error.specs.declared.Written.TheVariants.{Record, Refused}
 use Rattle.error.proofs.BufferAtExit.{builds_long, builds_record}
 use Rattle.args.proofs.ArgumentRows.{row_shaped, row_next, some_val}
-use Rattle.scalar.specs.Made.{Ctor, MadeAt, handed}
+use Rattle.scalar.specs.Made.{Ctor, MadeAt}
 use Rattle.scalar.proofs.MadeSteps.{ctor_of}
 use Rattle.scalar.proofs.MadeValues.{lit_made}
+use Rattle.std.specs.declared.result.Result.TheVariants.{Ok, Err}
+use Rattle.error.specs.declared.Refusal.TheVariants.{NoRoom}
 
--- ---- what was made, as a literal of the kind j
+-- ---- a payload as a literal of the kind j
 
-pub handed_no : (n : ℕ) (j : Kind) (m : Made) → paper m ≡ no n → handed j m ≡ no n
-handed_no n j m h = ap (λ (x : Result ℕ). x >>= λ q. ok (Vs j q)) h
-
-module _ {m : Made} {p : ℕ} (h : m ≡ Of p) {k : ℕ} (j : Kind) (n : k ≡ kind_no j) {r : ℕ} (z : Sized k lit_len most_lit r) where
-  is : handed j m ≡ ok (Vs j p)
-  unfolding paper
-  is = ap (handed j) h
-
+module _ (p : ℕ) {k : ℕ} (j : Kind) (n : k ≡ kind_no j) {r : ℕ} (z : Sized k lit_len most_lit r) where
   size : val_len (type_of (Vs j p)) ≡ r
   unfolding val_len type_of
   size = sym (z.is j n)
 
-  pub handed_long : (out : List ℕ) → length out < r → Builds (handed j m) out (Refused 22) out
-  handed_long out l = builds_long out (Vs j p) is (omega (arith, size))
+  pub handed_long : (out : List ℕ) → length out < r → Builds (ok (Vs j p)) out (Err NoRoom) out
+  handed_long out l = builds_long out (Vs j p) refl (omega (arith, size))
 
   pub handed_room : {most : ℕ} → r ≤ most → 0 + (3 + width_of k) ≤ most
   unfolding lit_len
   handed_room l = rw (n, width_of_lem j) (omega (arith, z.is j n))
 
-  pub handed_record : {out out' : List ℕ} {t : ℕ} → ((q : ℕ) → paper m ≡ ok q → T (good_lit j q)) → r ≤ length out
+  pub handed_record : {out out' : List ℕ} {t : ℕ} → T (good_lit j p) → r ≤ length out
       → Put out 0 (literal_of k p) t out'
-      → Builds (handed j m) out (Record t) out'
-  unfolding paper shaped_val val_bytes
+      → Builds (ok (Vs j p)) out (Ok t) out'
+  unfolding shaped_val val_bytes
   handed_record {out} {out'} {t} g l y =
-      builds_record out (Vs j p) is (g p (ap paper h)) (omega (arith, size))
+      builds_record out (Vs j p) refl g (omega (arith, size))
       (subst (λ (b : List ℕ). Put out 0 b t out') (ap (λ (x : ℕ). literal_of x p) n ∙ literal_bytes j p) y)
 
 -- ---- the kind
@@ -130,12 +125,23 @@ module _ {args : List ℕ} {v : Val} (w : Row args 0 (v ∷ [])) where
           let b : y.pay ≡ l.pay = cc l.is in
           ap₂ (ctor_lit s j) a b ∙ ctor_of y.stands m x r c l
 
-      pub single_good : (q : ℕ) → paper r ≡ ok q → T (good_lit j q)
-      single_good q e = let y = single v w m in lit_made s j y.kind x.concrete y.pay y.good q (made_of ∙ e)
+      pub single_good : {q : ℕ} → r ≡ Ok q → T (good_lit j q)
+      unfolding paper
+      single_good {q} e = let y = single v w m in lit_made s j y.kind x.concrete y.pay y.good q (made_of ∙ ap paper e)
 
-      pub single_build : build_one s (Ts j) v ≡ handed j r
+      single_build : build_one s (Ts j) v ≡ (paper r >>= λ q. ok (Vs j q))
       unfolding build_one scalar_of
       single_build =
           let y = single v w m in
           (rw (true_of (not (is_abstract j)) x.concrete))
           ∙ (ap (scalar_of s j) y.is ∙ ap (λ (z : Result ℕ). z >>= λ q. ok (Vs j q)) made_of)
+
+      -- a payload made, or the refusal
+      pub single_made : {p : ℕ} → r ≡ Ok p → build_one s (Ts j) v ≡ ok (Vs j p)
+      unfolding paper
+      single_made e = single_build ∙ ap (λ (z : Made). paper z >>= λ q. ok (Vs j q)) e
+
+      pub single_refused : {u : Unmade} → r ≡ Err u → build_one s (Ts j) v ≡ refusal (refusal_for u)
+      unfolding paper
+      single_refused {u} e =
+          single_build ∙ (ap (λ (z : Made). paper z >>= λ q. ok (Vs j q)) e ∙ no_more (λ (q : ℕ). ok (Vs j q)) (refusal_for u))

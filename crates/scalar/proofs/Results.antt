@@ -1,5 +1,5 @@
 -- The answers of the scalar constructors are told by their numbers.
-use mathlib.Core.Path.{◌≡◌, refl, sym, ap, ap₂, ◌∙◌}
+use mathlib.Core.Path.{◌≡◌, sym, ap, ap₂, ◌∙◌}
 use mathlib.Core.Option.{Option, none, some}
 use mathlib.Core.List.{List, [], ◌∷◌}
 use mathlib.Core.Bool.{Bool, true, false, cond}
@@ -8,14 +8,11 @@ use native.Mathlib.Omega.{arith}
 use lib.Dec.{eqb, eqb-suc-zero}
 use Rattle.meaning.specs.Kinds.{Kind, same_kind}
 use Rattle.meaning.specs.Scalars.{Stage, ctor_test, ctor_bits}
-use Rattle.meaning.specs.Answers.{Result, ok, no, miscount, ◌>>◌, need, all, all_some, refusal_of}
+use Rattle.meaning.specs.Answers.{Result, ok, no, miscount, ◌>>◌, need, all, all_some}
 use Rattle.meaning.specs.Build.{ctor_lit}
 use Rattle.laws.proofs.Each.{Numbered, bind_numbered, push, all_cons}
 use Rattle.laws.proofs.Named.{ok_inj}
 use Rattle.laws.proofs.Sound.{some_inj, no_some}
-use Rattle.literal.specs.LiteralAnswers.{paper}
-use Rattle.literal.specs.declared.Made.{Made}
-use Rattle.literal.specs.declared.Made.TheVariants.{Of, NoTarget, NoArgument, Abstract, Integer, Float}
 use Rattle.conv.specs.Items.{Item, Literal, Vector, Matrix, Array}
 use Rattle.scalar.specs.Made.{make_item}
 
@@ -36,18 +33,6 @@ unfolding all all_some
 all_given f [] m e = ap some (ok_inj e)
 all_given f (a ∷ l) m e = let x = all_cons f a l e in ap₂ push (ap given x.head) (all_given f l x.others x.tail)
     ∙ ap some (sym x.is)
-
--- ---- what was made of a literal
-
--- any other is the refusal of its number
-pub refusal_is : (m : Made) → ((p : ℕ) → m ≡ Of p → ⊥) → paper m ≡ no (refusal_of (paper m))
-unfolding paper refusal_of
-refusal_is (Of p) h = absurd (h p refl)
-refusal_is NoTarget h = refl
-refusal_is NoArgument h = refl
-refusal_is Abstract h = refl
-refusal_is Integer h = refl
-refusal_is Float h = refl
 
 -- ---- the constructors
 

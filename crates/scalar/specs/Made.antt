@@ -1,21 +1,24 @@
 -- The scalar constructors over the items of a record, and over one argument (document 01, scalar constructors): "one
 -- literal of any kind", and "the scalar constructor on each component" of a vector or a matrix.
-use Rattle.std.specs.Prelude.{◌≡◌, List, [], ◌∷◌, not, ℕ, ◌+◌, ◌≤◌, T, length, get_or}
+use Rattle.std.specs.Prelude.{◌≡◌, List, [], ◌∷◌, not, ℕ, ◌+◌, ◌≤◌, T, length, get_or, IfOk}
 use Rattle.meaning.specs.Kinds.{Kind, kind_no, is_abstract}
 use Rattle.meaning.specs.Scalars.{Stage}
 use Rattle.meaning.specs.Trees.{Ts, Val, Vs}
 use Rattle.meaning.specs.Records.{good_lit}
 use Rattle.meaning.specs.Answers.{Result, ok, ◌>>=◌, all, refusal_of}
 use Rattle.meaning.specs.Build.{ctor_lit, build_one}
-use Rattle.literal.specs.LiteralAnswers.{paper, rules_of, WhenTo}
-use Rattle.literal.specs.declared.Made.{Made}
+use Rattle.error.specs.Refusals.{number}
+use Rattle.std.specs.declared.result.Result.TheVariants.{Ok, Err}
+use Rattle.literal.specs.LiteralAnswers.{Made, rules_of, refusal_for, WhenTo}
+use Rattle.literal.specs.declared.Unmade.{Unmade}
+use Rattle.std.specs.declared.result.Result.{Result as Outcome}
 use Rattle.literal.specs.declared.Rules.{Rules}
 use Rattle.record.specs.Bytes.{Put, number_at}
-use Rattle.conv.specs.Items.{Item, Literal, Vector, Matrix, Array, item_bytes, bytes_of, ItemAt, ItemsAt}
+use Rattle.conv.specs.Items.{Item, Literal, Vector, Matrix, Array, item_bytes, bytes_of, ItemAt, ItemsAt, EndIs}
 use Rattle.args.specs.Row.{Row}
 use Rattle.error.specs.Told.{Builds}
-use Rattle.error.specs.declared.Written.{Written}
 use Rattle.record.specs.Literals.{width_of}
+use Rattle.error.specs.Told.{Written}
 
 -- a literal goes through the constructor of the kind k; a mark stays
 unfoldable pub make_item : Stage → Kind → Item → Result Item
@@ -27,6 +30,11 @@ make_item s k (Array n) = ok (Array n)
 -- each in order, up to the first refusal
 abbrev pub make_items : Stage → Kind → List Item → Result (List Item)
 make_items s k l = all (make_item s k) l
+
+-- the number of the refusal, and 0 where something was made
+abbrev pub number_in : {A : Type 0} → Outcome A Unmade → ℕ
+number_in (Ok a) = 0
+number_in (Err u) = number (refusal_for u)
 
 -- ---- one item
 
@@ -40,8 +48,10 @@ pub record Ctor (rules : Rules) (k : ℕ) (s : Stage) (j : Kind) : Type 0 where
 abbrev pub MadeAt : Rules → ℕ → List ℕ → ℕ → Made → Type 0
 MadeAt rules k src i r = let j = get_or src (i + 2) 0 in WhenTo rules k j (number_at src (i + 3) (width_of j)) r
 
-abbrev pub ItemMade : Rules → ℕ → List ℕ → ℕ → ℕ → Type 0
-ItemMade rules k src i r = (s : Stage) (j : Kind) (a : Item) → Ctor rules k s j → ItemAt src i a → r ≡ refusal_of (make_item s j a)
+-- the item goes through that constructor, and ends there, or it is refused
+pub record ItemMade (rules : Rules) (k : ℕ) (src : List ℕ) (i : ℕ) (r : Outcome ℕ Unmade) : Type 0 where
+  pub made : (s : Stage) (j : Kind) (a : Item) → Ctor rules k s j → ItemAt src i a → number_in r ≡ refusal_of (make_item s j a)
+  pub ends : IfOk r (EndIs src i)
 
 pub record ItemRoom (rules : Rules) (k : ℕ) (src : List ℕ) (i : ℕ) (out : List ℕ) (to : ℕ) : Type 0 where
   pub at : Stage
@@ -59,9 +69,9 @@ ItemPut rules k src i out to r out' =
 
 -- ---- several
 
-abbrev pub AllMade : Rules → ℕ → List ℕ → ℕ → ℕ → ℕ → Type 0
+abbrev pub AllMade : Rules → ℕ → List ℕ → ℕ → ℕ → Outcome (Unit {0}) Unmade → Type 0
 AllMade rules k src from e r = (s : Stage) (j : Kind) (l : List Item) → Ctor rules k s j → ItemsAt src from e l
-    → r ≡ refusal_of (make_items s j l)
+    → number_in r ≡ refusal_of (make_items s j l)
 
 pub record Makeable (rules : Rules) (k : ℕ) (src : List ℕ) (from e : ℕ) (out : List ℕ) (to : ℕ) : Type 0 where
   pub at : Stage
@@ -90,13 +100,9 @@ pub record OneArg (s : List ℕ) : Type 0 where
   pub value : Val
   pub row : Row s 0 (value ∷ [])
 
--- what was made as a literal of the kind j, or the refusal
-abbrev pub handed : Kind → Made → Result Val
-handed j m = paper m >>= λ q. ok (Vs j q)
-
--- it is handed over, where every payload made is one of the kind
-abbrev pub Handed : ℕ → Made → List ℕ → Written → List ℕ → Type 0
-Handed k m out r out' = (j : Kind) → k ≡ kind_no j → ((q : ℕ) → paper m ≡ ok q → T (good_lit j q)) → Builds (handed j m) out r out'
+-- a payload is handed over as a literal of the kind with the number k, where it is one of the kind's
+abbrev pub Handed : ℕ → ℕ → List ℕ → Written → List ℕ → Type 0
+Handed k q out r out' = (j : Kind) → k ≡ kind_no j → T (good_lit j q) → Builds (ok (Vs j q)) out r out'
 
 -- "one literal of any kind" to the scalar type of the kind with the number k
 abbrev pub ScalarTold : Rules → ℕ → List ℕ → List ℕ → Written → List ℕ → Type 0

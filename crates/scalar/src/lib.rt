@@ -8,30 +8,31 @@ ghost use Rattle.conv.specs.Items.{SomeItem, SomeItems};
 ghost use Rattle.scalar.specs.Made.{MadeAt, ItemMade, ItemRoom, ItemPut, AllMade, Makeable, Makes, SomeKind, OneArg, Handed};
 ghost use Rattle.scalar.specs.Made.{ScalarTold};
 
-use error::{Refusal, Written};
+use error::Refusal;
 use kind::Scalar;
-use literal::{Made, Rules};
+use literal::{Rules, Unmade};
 
 // ---- one item of a value's record: a literal, or a mark with its counts
 
 // What the constructor of the kind k makes of the literal whose record begins at i.
-fn made_at(rules: Rules, src: &[u8], i: usize, k: u8) -> Made
+fn made_at(rules: Rules, src: &[u8], i: usize, k: u8) -> Result<u64, Unmade>
     requires { i + (3 + width_of (get_or src.now (i + 2) 0)) ≤ length src.now }
     ensures { MadeAt rules k src.now i result }
 {
     literal::construct_literal(rules, k, src[i + 2], record::payload_at(src, i))
 }
 
-// The refusal of the item, 0 if it goes through the constructor of the kind k; a mark always does.
-fn item_made(rules: Rules, src: &[u8], i: usize, k: u8) -> u8
+// Where the item ends, if it goes through the constructor of the kind k; a mark always does.
+fn item_made(rules: Rules, src: &[u8], i: usize, k: u8) -> Result<usize, Unmade>
     requires { SomeItem src.now i }
     ensures { ItemMade rules k src.now i result }
 {
     let mark = src[i + 1];
     if mark != b's' {
-        return 0;
+        return Ok(conv::item_end(src, i));
     }
-    literal::refusal(made_at(rules, src, i, k))
+    made_at(rules, src, i, k)?;
+    Ok(conv::item_end(src, i))
 }
 
 // The item, a literal as the constructor of the kind k makes it, a mark as it stands.
@@ -42,9 +43,9 @@ fn put_made(rules: Rules, src: &[u8], i: usize, k: u8, out: &mut [u8], to: usize
     let mark = src[i + 1];
     if mark != b's' {
         let end = conv::item_end(src, i);
-        return record::copy(src, i, end, out, to);
+        return record::put_bytes(out, to, &src[i..end]);
     }
-    let Made::Of(p) = made_at(rules, src, i, k) else {
+    let Ok(p) = made_at(rules, src, i, k) else {
         return to;
     };
     record::put_literal(out, to, k, p)
@@ -52,21 +53,17 @@ fn put_made(rules: Rules, src: &[u8], i: usize, k: u8, out: &mut [u8], to: usize
 
 // ---- the items of a value's record
 
-// The refusal of the first literal from `from` up to `end` that the constructor of the kind k does not take; 0 if it
-// takes each. Decided before anything is written.
-pub fn all_made(rules: Rules, src: &[u8], from: usize, end: usize, k: u8) -> u8
+// Whether the constructor of the kind k takes each literal from `from` up to `end`: the first that it does not take
+// says why. Decided before anything is written.
+pub fn all_made(rules: Rules, src: &[u8], from: usize, end: usize, k: u8) -> Result<(), Unmade>
     requires { SomeItems src.now from end }
     ensures { AllMade rules k src.now from end result }
 {
     let mut i = from;
     while i < end {
-        let no = item_made(rules, src, i, k);
-        if no != 0 {
-            return no;
-        }
-        i = conv::item_end(src, i);
+        i = item_made(rules, src, i, k)?;
     }
-    0
+    Ok(())
 }
 
 // The items from `from` up to `end`, each literal as the constructor of the kind k makes it. A literal of another kind
@@ -94,33 +91,31 @@ pub fn write_made(
 
 // ---- one argument
 
-// What was made, handed over as a literal of the kind k if there is room for it: "22 the accepted record is longer than the lent buffer".
-fn hand_literal(k: u8, made: Made, out: &mut [u8]) -> Written
+// A payload handed over as a literal of the kind k, if there is room for it: "22 the accepted record is longer than the lent buffer".
+fn hand_literal(k: u8, payload: u64, out: &mut [u8]) -> Result<usize, Refusal>
     requires { SomeKind k }
-    ensures { Handed k made out.old result out.new }
+    ensures { Handed k payload out.old result out.new }
 {
-    let Made::Of(p) = made else {
-        return Written::Refused(literal::refusal(made));
-    };
     if record::literal_len(k) > out.len() {
-        return Written::Refused(Refusal::NO_ROOM);
+        return Err(Refusal::NoRoom);
     }
-    Written::Record(record::put_literal(out, 0, k, p))
+    Ok(record::put_literal(out, 0, k, payload))
 }
 
 // The scalar type of the kind k given one argument: "4 not constructible (abstract scalar with arguments)", "6 scalar
 // given a non-scalar", then 15 or 21, then 22.
-pub fn scalar(rules: Rules, k: u8, args: &[u8], out: &mut [u8]) -> Written
+pub fn scalar(rules: Rules, k: u8, args: &[u8], out: &mut [u8]) -> Result<usize, Refusal>
     requires some_kind { SomeKind k }
     requires one_arg { OneArg args.now }
     ensures { ScalarTold rules k args.now out.old result out.new }
 {
     let kind = Scalar { kind: k };
     if kind.is_abstract() {
-        return Written::Refused(Refusal::NOT_CONSTRUCTIBLE);
+        return Err(Refusal::NotConstructible);
     }
     if args[1] != b's' {
-        return Written::Refused(Refusal::NOT_A_SCALAR);
+        return Err(Refusal::NotAScalar);
     }
-    hand_literal(k, made_at(rules, args, 0, k), out)
+    let payload = made_at(rules, args, 0, k)?;
+    hand_literal(k, payload, out)
 }

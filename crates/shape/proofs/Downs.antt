@@ -13,8 +13,8 @@ use Rattle.laws.proofs.AgreeMat.{Down, down}
 use Rattle.laws.proofs.AgreeVec.{not_to_scalar}
 use Rattle.rank.specs.Ranked.{KindConverts}
 use Rattle.shape.specs.Kinds.{found_of}
-use Rattle.shape.specs.declared.Found.TheVariants.{Kind as Is, Nothing}
 use Rattle.shape.proofs.KindsFound.{found_kind, found_none, lit_is}
+use Rattle.std.specs.declared.option.Option.TheVariants.{None, Some}
 
 -- an option that the test says of
 pub some_of : {A : Type 0} (o : Option A) → true ≡ some? o → (a : A) × (o ≡ some a)
@@ -37,11 +37,11 @@ down_by j t = go (converts (inner t) (Ts j))
 
 module _ {k : ℕ} (j : Kind) (n : k ≡ kind_no j) (t : Ty) where
   -- by whether the kind one level down converts
-  pub by_kind : {i : ℕ} → Is i ≡ found_of (lit_kind (inner t)) → {b : Bool} → KindConverts i k b → b ≡ some? (to_inner j t)
+  pub by_kind : {i : ℕ} → Some i ≡ found_of (lit_kind (inner t)) → {b : Bool} → KindConverts i k b → b ≡ some? (to_inner j t)
   by_kind {i} h f = let y = found_kind (lit_kind (inner t)) h in f y.kind j y.no n
       ∙ sym (down_by j t ∙ ap (λ (u : Ty). converts u (Ts j)) (lit_is (inner t) y.is))
 
-  pub down_other : Nothing ≡ found_of (lit_kind (inner t)) → false ≡ some? (to_inner j t)
+  pub down_other : None ≡ found_of (lit_kind (inner t)) → false ≡ some? (to_inner j t)
   down_other h = sym (down_by j t ∙ not_to_scalar (inner t) j (found_none (lit_kind (inner t)) h))
 
 -- what the answer of `goes_down` means
@@ -59,7 +59,7 @@ goes_to j t h =
     record { into = o.1 ∙ ap some (sym d.is); down = record { kind = d.kind; at = d.at; is = refl; ranks = d.ranks } }
 
 -- the same, of the kind one level down and whether it converts
-module _ {k : ℕ} (j : Kind) (n : k ≡ kind_no j) (t : Ty) {i : ℕ} (h : Is i ≡ found_of (lit_kind (inner t))) {b : Bool}
+module _ {k : ℕ} (j : Kind) (n : k ≡ kind_no j) (t : Ty) {i : ℕ} (h : Some i ≡ found_of (lit_kind (inner t))) {b : Bool}
     (f : KindConverts i k b) where
   pub kind_stays : b ≡ false → to_inner j t ≡ none
   kind_stays e = goes_no j t (sym e ∙ by_kind j n t h f)

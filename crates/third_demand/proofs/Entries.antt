@@ -3,6 +3,7 @@ use mathlib.Core.Path.{◌≡◌, refl, sym, ap, ◌∙◌, subst}
 use mathlib.Core.Option.{some}
 use mathlib.Core.List.{List, ◌++◌, map}
 use mathlib.Core.Bool.{Bool, true, false, cond}
+use native.Mathlib.Omega.{arith}
 use Prim.Native.Nat.{ℕ}
 use lib.Dec.{T, leb}
 use lib.ListN.{length, take, drop}
@@ -25,24 +26,34 @@ use Rattle.laws.proofs.Handed.{target_good, vals_good}
 use Rattle.laws.proofs.Exact.{target_exact, vals_exact, tys_exact}
 use Rattle.laws.proofs.Third.{third_read}
 use Rattle.error.specs.Told.{Told, by_length}
-use Rattle.error.specs.declared.Written.{Written}
-use Rattle.error.specs.declared.Written.TheVariants.{Record, Refused, Miscount}
-use Rattle.error.proofs.Told.{told_as, is_record, is_refused, is_miscount}
+use Rattle.error.specs.Refusals.{paper}
+use Rattle.error.proofs.Refusals.{is_ok}
+use Rattle.error.proofs.Told.{told_as}
 use Rattle.third_demand.specs.Entries.{refuses, Declined, Returned, Outcome, Demand3Entries, Demand3Bytes}
+use Rattle.error.specs.Told.{Written}
+use Rattle.std.specs.declared.result.Result.TheVariants.{Ok, Err}
 
 -- ---- one call
 
 -- a record as its contract tells it
-pub recorded : (s : List ℕ) {a : Answer} {out out' : List ℕ} {r : Written} → a ≡ ok s → Told a out r out' → (r ≡ Record (length s))
+pub recorded : (s : List ℕ) {a : Answer} {out out' : List ℕ} {r : Written} → a ≡ ok s → Told a out r out' → (r ≡ Ok (length s))
     × (out' ≡ s ++ drop (length s) out)
 unfolding by_length laid
-recorded s {r = r} e t = let u = told_as (sym e) t in (is_record r u.says, u.leaves)
+recorded s {r = r} e t = let u = told_as (sym e) t in (is_ok r u.says, u.leaves)
+
+-- an answer that is no record is a refusal
+not_record : (r : Written) → ((m : ℕ) → paper r ≡ ok m → ⊥) → T (refuses r)
+unfolding paper refuses
+not_record (Ok m) f = absurd (f m refl)
+not_record (Err x) f = tt
 
 pub declined : (a : Answer) {out out' : List ℕ} {r : Written} → T (demand.refused a) → Told a out r out' → Declined out r out'
 unfolding by_length laid refuses demand.refused
 declined (ok s) h t = absurd h
-declined (no n) {r = r} h t = record { says = rw (is_refused r t.says) tt; leaves = t.leaves }
-declined (miscount w g) {r = r} h t = record { says = rw (is_miscount r t.says) tt; leaves = t.leaves }
+declined (no n) {r = r} h t =
+    record { says = not_record r (λ m e. let x = sym t.says ∙ e in let z : ◌≡◌ {A = ℕ} 0 1 = cc in omega arith); leaves = t.leaves }
+declined (miscount w g) {r = r} h t =
+    record { says = not_record r (λ m e. let x = sym t.says ∙ e in let z : ◌≡◌ {A = ℕ} 0 1 = cc in omega arith); leaves = t.leaves }
 
 -- ---- typing's answer
 
@@ -66,9 +77,8 @@ type_told target types g l t h a u room r = rw (h, a, u, true_of (leb (length (t
 neither : (s : Stage) (g : Target) (l : List Val) {outT outT' outB outB' : List ℕ} (rT : Written) {rB : Written}
     → Declined outT rT outT' → Declined outB rB outB' → Outcome s g l outT rT outT' outB rB outB'
 unfolding refuses Outcome
-neither s g l (Record n) d b = absurd d.says
-neither s g l (Refused n) d b = record { leaves = d.leaves; building = b }
-neither s g l (Miscount w h) d b = record { leaves = d.leaves; building = b }
+neither s g l (Ok n) d b = absurd d.says
+neither s g l (Err x) d b = record { leaves = d.leaves; building = b }
 
 -- building returned a value, whose type is the one named
 returned : (t : Ty) → T (good_ty t) → {a b : Answer} → a ≡ ok (ty_bytes t) → demand.Returned a b
@@ -96,7 +106,7 @@ outcome s g l {a} {b} {outT} {outT'} {outB} {outB'} {rT} {rB} (ok t) f m p q =
     e : a ≡ ok (ty_bytes t)
     e = (f t refl).1
 
-    u : (rT ≡ Record (length (ty_bytes t))) × (outT' ≡ ty_bytes t ++ drop (length (ty_bytes t)) outT)
+    u : (rT ≡ Ok (length (ty_bytes t))) × (outT' ≡ ty_bytes t ++ drop (length (ty_bytes t)) outT)
     u = recorded (ty_bytes t) e p
 
     go : (y : Bool) → cond y (demand.Returned a b) (T (demand.refused b))

@@ -29,8 +29,8 @@ use Rattle.meaning.specs.Typing.{typed}
 use Rattle.meaning.specs.Entries.{build_answer, type_answer, stage_of}
 use Rattle.laws.specs.Demand.{in_scope, nothing_stops, long_enough}
 use Rattle.error.specs.Told.{Told}
-use Rattle.error.specs.declared.Written.{Written}
-use Rattle.error.specs.declared.Written.TheVariants.{Record, Refused, Miscount}
+use Rattle.error.specs.Told.{Written}
+use Rattle.std.specs.declared.result.Result.TheVariants.{Ok, Err}
 
 -- The two calls, each as its contract tells it: result r and the lent buffer, out at entry and out' at exit; T is
 -- typing's, B building's. "Both calls get the same target, building gets the arguments and typing their types in the
@@ -44,9 +44,8 @@ pub record Calls (stage : ℕ) (target args types outT : List ℕ) (rT : Written
 -- ---- what comes of them
 
 unfoldable pub refuses : Written → Bool
-refuses (Record n) = false
-refuses (Refused n) = true
-refuses (Miscount w g) = true
+refuses (Ok n) = false
+refuses (Err x) = true
 
 -- "a refusal leaves the lent buffer untouched"
 pub record Declined (out : List ℕ) (r : Written) (out' : List ℕ) : Type 0 where
@@ -60,10 +59,10 @@ pub record Returned (t : Ty) (answered out : List ℕ) (r : Written) (out' : Lis
   pub good : T (good_val value)
   pub type : type_of value ≡ t
   pub same : ty_bytes (type_of value) ≡ answered
-  pub says : r ≡ Record (length (val_bytes value))
+  pub says : r ≡ Ok (length (val_bytes value))
   pub leaves : out' ≡ val_bytes value ++ drop (length (val_bytes value)) out
 
--- "Where the typing entry passes the arguments' types": it returned Record n, the record of `type` is the first n bytes
+-- "Where the typing entry passes the arguments' types": it returned Ok n, the record of `type` is the first n bytes
 -- of its buffer, and "building returns a value exactly when every literal .. fits .. and, for a counted array given any
 -- arguments, their count is the array's; otherwise it refuses"
 pub record Passed (s : Stage) (g : Target) (l : List Val) (outT : List ℕ) (n : ℕ) (outT' outB : List ℕ) (rB : Written) (outB' : List ℕ) :
@@ -81,9 +80,8 @@ pub record Neither (outT outT' outB : List ℕ) (rB : Written) (outB' : List ℕ
 
 -- by what typing returned
 unfoldable pub Outcome : Stage → Target → List Val → List ℕ → Written → List ℕ → List ℕ → Written → List ℕ → Type 0
-Outcome s g l outT (Record n) outT' outB rB outB' = Passed s g l outT n outT' outB rB outB'
-Outcome s g l outT (Refused n) outT' outB rB outB' = Neither outT outT' outB rB outB'
-Outcome s g l outT (Miscount w h) outT' outB rB outB' = Neither outT outT' outB rB outB'
+Outcome s g l outT (Ok n) outT' outB rB outB' = Passed s g l outT n outT' outB rB outB'
+Outcome s g l outT (Err x) outT' outB rB outB' = Neither outT outT' outB rB outB'
 
 -- ---- the statement
 

@@ -5,12 +5,12 @@
 
 ghost use Rattle.third_demand.specs.Entries.{Calls};
 
-use error::Written;
+use error::Refusal;
 
 #[derive(Clone, Copy)]
 pub struct Results {
-    pub typing: Written,
-    pub building: Written,
+    pub typing: Result<usize, Refusal>,
+    pub building: Result<usize, Refusal>,
 }
 
 // Typing, then building, each with its own buffer. Target, arguments and types are lent shared, so neither call writes them.

@@ -5,19 +5,19 @@ use Prim.Native.Nat.{ℕ}
 use native.Mathlib.Omega.{arith}
 use Rattle.meaning.specs.Kinds.{Kind, kind_no}
 use Rattle.ty.specs.Heads.{leaf_of}
-use Rattle.ty.specs.declared.Leaf.TheVariants.{Kind as Bottom, Struct as Blocked}
+use Rattle.std.specs.declared.option.Option.TheVariants.{None, Some}
 
 pub record KindIs (k : ℕ) (o : Option Kind) : Type 0 where
   pub kind : Kind
   pub is : o ≡ some kind
   pub no : k ≡ kind_no kind
 
-pub kind_is : (k : ℕ) (o : Option Kind) → Bottom k ≡ leaf_of o → KindIs k o
+pub kind_is : (k : ℕ) (o : Option Kind) → Some k ≡ leaf_of o → KindIs k o
 unfolding leaf_of
 kind_is k none e = absurd (let z : ◌≡◌ {A = ℕ} 0 1 = cc in omega arith)
 kind_is k (some j) e = record { kind = j; is = refl; no = cc }
 
-pub struct_is : (o : Option Kind) → Blocked ≡ leaf_of o → o ≡ none
+pub struct_is : (o : Option Kind) → None ≡ leaf_of o → o ≡ none
 unfolding leaf_of
 struct_is none e = refl
 struct_is (some j) e = absurd (let z : ◌≡◌ {A = ℕ} 0 1 = cc in omega arith)

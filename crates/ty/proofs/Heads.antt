@@ -179,6 +179,20 @@ module _ {d : ℕ} {s : List ℕ} {at : ℕ} where
   last_mark {t = Ta n u} w f g h i = absurd (i (mark_is w))
   last_mark {t = Tu j m} w f g h i = mark_is w
 
+  -- by the mark there is room for the whole front
+  pub vector_room : {t : Ty} {e : ℕ} → Stands d s at t e → get_or s (at + 1) 0 ≡ ‘v’ → at + 6 ≤ length s
+  vector_room w g = let x = vector_by w g in omega (arith, w.within)
+
+  pub matrix_room : {t : Ty} {e : ℕ} → Stands d s at t e → get_or s (at + 1) 0 ≡ ‘m’ → at + 7 ≤ length s
+  matrix_room w g = let x = matrix_by w g in omega (arith, w.within)
+
+  pub array_room : {t : Ty} {e : ℕ} → Stands d s at t e → get_or s (at + 1) 0 ≡ ‘a’ → at + 4 ≤ length s
+  array_room w g = let x = array_by w g in omega (arith, w.within)
+
+  pub struct_room : {t : Ty} {e : ℕ} → Stands d s at t e → (get_or s (at + 1) 0 ≡ ‘s’ → ⊥) → (get_or s (at + 1) 0 ≡ ‘v’ → ⊥)
+      → (get_or s (at + 1) 0 ≡ ‘m’ → ⊥) → (get_or s (at + 1) 0 ≡ ‘a’ → ⊥) → at + 6 ≤ length s
+  struct_room w f g h i = let x = struct_by w (last_mark w f g h i) in omega (arith, w.within)
+
   -- ---- the front that the bytes say
 
   module _ {t : Ty} {e : ℕ} where

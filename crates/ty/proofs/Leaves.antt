@@ -9,31 +9,31 @@ use Rattle.meaning.specs.Trees.{Ty, Ts, Tv, Tm, Ta, Tu, leaf, set_leaf}
 use Rattle.meaning.specs.Records.{ty_bytes, le}
 use Rattle.ty.specs.Stands.{Stands}
 use Rattle.ty.specs.Heads.{head_of, leaf_of, LeafAt}
-use Rattle.ty.specs.declared.Leaf.{Leaf}
-use Rattle.ty.specs.declared.Leaf.TheVariants.{Kind as Bottom, Struct as Blocked}
 use Rattle.ty.specs.declared.Head.TheVariants.{Scalar, Vector, Matrix, Array, Struct}
 use Rattle.ty.proofs.Heads.{scalar_is, vector_is, matrix_is, array_is, struct_is}
+use Rattle.std.specs.declared.option.Option.{Option}
+use Rattle.std.specs.declared.option.Option.TheVariants.{None, Some}
 
 -- ---- by the front of a type
 
 module _ {d : ℕ} {s : List ℕ} {at : ℕ} {t : Ty} {e : ℕ} (w : Stands d s at t e) where
-  pub scalar_leaf : {k : ℕ} → Scalar k ≡ head_of t → Bottom k ≡ leaf_of (leaf t)
+  pub scalar_leaf : {k : ℕ} → Scalar k ≡ head_of t → Some k ≡ leaf_of (leaf t)
   unfolding leaf leaf_of
-  scalar_leaf h = let x = scalar_is w h in ap Bottom x.no ∙ ap (λ (u : Ty). leaf_of (leaf u)) (sym x.is)
+  scalar_leaf h = let x = scalar_is w h in ap Some x.no ∙ ap (λ (u : Ty). leaf_of (leaf u)) (sym x.is)
 
-  pub vector_leaf : {n k : ℕ} → Vector n k ≡ head_of t → Bottom k ≡ leaf_of (leaf t)
+  pub vector_leaf : {n k : ℕ} → Vector n k ≡ head_of t → Some k ≡ leaf_of (leaf t)
   unfolding leaf leaf_of
-  vector_leaf h = let x = vector_is w h in ap Bottom x.no ∙ ap (λ (u : Ty). leaf_of (leaf u)) (sym x.is)
+  vector_leaf h = let x = vector_is w h in ap Some x.no ∙ ap (λ (u : Ty). leaf_of (leaf u)) (sym x.is)
 
-  pub matrix_leaf : {c r k : ℕ} → Matrix c r k ≡ head_of t → Bottom k ≡ leaf_of (leaf t)
+  pub matrix_leaf : {c r k : ℕ} → Matrix c r k ≡ head_of t → Some k ≡ leaf_of (leaf t)
   unfolding leaf leaf_of
-  matrix_leaf h = let x = matrix_is w h in ap Bottom x.no ∙ ap (λ (u : Ty). leaf_of (leaf u)) (sym x.is)
+  matrix_leaf h = let x = matrix_is w h in ap Some x.no ∙ ap (λ (u : Ty). leaf_of (leaf u)) (sym x.is)
 
-  pub array_leaf : {n : ℕ} {r : Leaf} → Array n ≡ head_of t → LeafAt (d - 1) s (at + 4) r → r ≡ leaf_of (leaf t)
+  pub array_leaf : {n : ℕ} {r : Option ℕ} → Array n ≡ head_of t → LeafAt (d - 1) s (at + 4) r → r ≡ leaf_of (leaf t)
   unfolding leaf
   array_leaf h f = let x = array_is w h in rw x.is (f x.elem e x.part)
 
-  pub struct_leaf : {i n : ℕ} → Struct i n ≡ head_of t → Blocked ≡ leaf_of (leaf t)
+  pub struct_leaf : {i n : ℕ} → Struct i n ≡ head_of t → None ≡ leaf_of (leaf t)
   unfolding leaf leaf_of
   struct_leaf h = let x = struct_is w h in rw x.is
 

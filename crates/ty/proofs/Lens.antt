@@ -1,5 +1,5 @@
 -- The lengths of values: what the steps of `value_len` and `members_len` come to.
-use mathlib.Core.Path.{◌≡◌, refl, sym, ap, ◌∙◌}
+use mathlib.Core.Path.{◌≡◌, refl, sym, ap}
 use mathlib.Core.List.{List}
 use mathlib.Core.Bool.{Bool, true, false}
 use Prim.Native.Nat.{ℕ, zero, suc, ◌+◌, ◌-◌, ◌*◌, ◌/◌, ◌≤◌, ◌<◌, ◌^◌}
@@ -12,35 +12,36 @@ use Rattle.meaning.specs.Trees.{Ty, Ts, Tv, Tm, Tys, val_len, val_lens, lit_len}
 use Rattle.record.specs.Literals.{Sized, most_lit}
 use Rattle.ty.specs.Stands.{Stands, StandAll, Standing}
 use Rattle.ty.specs.Heads.{head_of, pick_len, len_of, Measured}
-use Rattle.ty.specs.declared.Len.{Len}
-use Rattle.ty.specs.declared.Len.TheVariants.{Is, TooLong}
 use Rattle.ty.specs.declared.Head.TheVariants.{Scalar, Vector, Matrix, Array, Struct}
 use Rattle.ty.proofs.Heads.{scalar_is, vector_is, matrix_is, array_is, struct_is, first_is, none_is, FirstIs}
+use Rattle.std.proofs.lemmas.Option.{some_pair_parts}
+use Rattle.std.specs.declared.option.Option.{Option}
+use Rattle.std.specs.declared.option.Option.TheVariants.{None, Some}
 
 -- ---- exact to 64 bits
 
-pub len_is : (e n : ℕ) → n < 2 ^ 64 → len_of e n ≡ Is e n
+pub len_is : (e n : ℕ) → n < 2 ^ 64 → len_of e n ≡ Some (e, n)
 unfolding len_of
 len_is e n h = rw (lt-ltb n (2 ^ 64) h)
 
-pub len_long : (e n : ℕ) → 2 ^ 64 ≤ n → len_of e n ≡ TooLong
+pub len_long : (e n : ℕ) → 2 ^ 64 ≤ n → len_of e n ≡ None
 unfolding len_of
 len_long e n h = rw (le-ltb n (2 ^ 64) h)
 
 -- what an answer says
-pub is_len : (a m e n : ℕ) → Is a m ≡ len_of e n → (a ≡ e) × (m ≡ n) × (n < 2 ^ 64)
+pub is_len : (a m e n : ℕ) → Some (a, m) ≡ len_of e n → (a ≡ e) × (m ≡ n) × (n < 2 ^ 64)
 unfolding len_of
 is_len a m e n h = go (ltb n (2 ^ 64)) refl h
   where
-    go : (b : Bool) → ltb n (2 ^ 64) ≡ b → Is a m ≡ pick_len b (Is e n) TooLong → (a ≡ e) × (m ≡ n) × (n < 2 ^ 64)
-    go true q x = ((cc), (cc), ltb-true n (2 ^ 64) q)
+    go : (b : Bool) → ltb n (2 ^ 64) ≡ b → Some (a, m) ≡ pick_len b (Some (e, n)) None → (a ≡ e) × (m ≡ n) × (n < 2 ^ 64)
+    go true q x = let p = some_pair_parts a e m n x in (p.0, p.1, ltb-true n (2 ^ 64) q)
     go false q x = absurd (let z : ◌≡◌ {A = ℕ} 0 1 = cc in omega arith)
 
-pub long_len : (e n : ℕ) → TooLong ≡ len_of e n → 2 ^ 64 ≤ n
+pub long_len : (e n : ℕ) → None ≡ len_of e n → 2 ^ 64 ≤ n
 unfolding len_of
 long_len e n h = go (ltb n (2 ^ 64)) refl h
   where
-    go : (b : Bool) → ltb n (2 ^ 64) ≡ b → TooLong ≡ pick_len b (Is e n) TooLong → 2 ^ 64 ≤ n
+    go : (b : Bool) → ltb n (2 ^ 64) ≡ b → None ≡ pick_len b (Some (e, n)) None → 2 ^ 64 ≤ n
     go true q x = absurd (let z : ◌≡◌ {A = ℕ} 0 1 = cc in omega arith)
     go false q x = ltb-false n (2 ^ 64) q
 
@@ -67,32 +68,32 @@ sized_times a n w k m l len p h z = record { is = λ j q. rw (p, z.is j q); smal
 -- ---- a type without parts
 
 fixed_len : (f : Kind → Ty) {k : Kind} {t : Ty} {n e a most r : ℕ} → n ≡ kind_no k → t ≡ f k → a ≡ e → Sized n (λ j. val_len (f j)) most r
-    → most < 2 ^ 64 → Is a r ≡ len_of e (val_len t)
+    → most < 2 ^ 64 → Some (a, r) ≡ len_of e (val_len t)
 fixed_len f {k} {e = e} {r = r} p q i z h =
     let l = z.small in
     rw (q, i, ← z.is k p) (sym (len_is e r (omega arith)))
 
 module _ {d : ℕ} {s : List ℕ} {at : ℕ} {t : Ty} {e : ℕ} (w : Stands d s at t e) where
-  pub scalar_len : {k r : ℕ} → Scalar k ≡ head_of t → Sized k lit_len most_lit r → Is (at + 3) r ≡ len_of e (val_len t)
+  pub scalar_len : {k r : ℕ} → Scalar k ≡ head_of t → Sized k lit_len most_lit r → Some (at + 3, r) ≡ len_of e (val_len t)
   unfolding val_len
   scalar_len h z = let x = scalar_is w h in fixed_len Ts x.no x.is x.end z (omega arith)
 
   pub vector_len : {n k most r : ℕ} → Vector n k ≡ head_of t → Sized k (λ j. val_len (Tv n j)) most r → most < 2 ^ 64
-      → Is (at + 6) r ≡ len_of e (val_len t)
+      → Some (at + 6, r) ≡ len_of e (val_len t)
   vector_len {n} h z = let x = vector_is w h in fixed_len (Tv n) x.no x.is x.end z
 
   pub matrix_len : {c r k most l : ℕ} → Matrix c r k ≡ head_of t → Sized k (λ j. val_len (Tm c r j)) most l → most < 2 ^ 64
-      → Is (at + 7) l ≡ len_of e (val_len t)
+      → Some (at + 7, l) ≡ len_of e (val_len t)
   matrix_len {c} {r} h z = let x = matrix_is w h in fixed_len (Tm c r) x.no x.is x.end z
 
   -- ---- a type with parts
 
-  pub array_len : {n : ℕ} {r l : Len} → Array n ≡ head_of t → Measured (d - 1) s (at + 4) l
+  pub array_len : {n : ℕ} {r l : Option (ℕ × ℕ)} → Array n ≡ head_of t → Measured (d - 1) s (at + 4) l
       → ((e m : ℕ) → l ≡ len_of e m → r ≡ len_of e (4 + n * m)) → r ≡ len_of e (val_len t)
   unfolding val_len
   array_len h q f = let x = array_is w h in rw x.is (f e (val_len x.elem) (q x.elem e x.part))
 
-  pub struct_len : {i n : ℕ} {r : Len} → Struct i n ≡ head_of t →
+  pub struct_len : {i n : ℕ} {r : Option (ℕ × ℕ)} → Struct i n ≡ head_of t →
       ((m : Tys) (e : ℕ) → StandAll (d - 1) s (at + 6) n m e → r ≡ len_of e (6 + val_lens m)) → r ≡ len_of e (val_len t)
   unfolding val_len
   struct_len h f = let x = struct_is w h in rw x.is (f x.members e x.parts)
@@ -104,38 +105,45 @@ pub record LenLeft (d : ℕ) (s : List ℕ) (m₀ : Tys) (e i left sum : ℕ) : 
   pub sums : sum + val_lens types ≡ 6 + val_lens m₀
 
 module _ {d : ℕ} {s : List ℕ} {m₀ : Tys} {e i left sum : ℕ} (w : LenLeft d s m₀ e i left sum) where
-  firstly : 0 < left → FirstIs d s i left w.types e
-  firstly h = first_is w.stands h
+  module _ (h : 0 < left) where
+    firstly : FirstIs d s i left w.types e
+    firstly = first_is w.stands h
 
-  pub left_first : 0 < left → Standing d s i
-  left_first h = let f = firstly h in record { type = f.type; end = f.mid; stands = f.first }
+    pub left_first : Standing d s i
+    left_first = record { type = firstly.type; end = firstly.mid; stands = firstly.first }
 
-  more : (h : 0 < left) → val_lens w.types ≡ val_len (firstly h).type + val_lens (firstly h).others
-  unfolding val_lens
-  more h = ap val_lens (firstly h).is
+    more : val_lens w.types ≡ val_len firstly.type + val_lens firstly.others
+    unfolding val_lens
+    more = ap val_lens firstly.is
 
-  pub left_again : (h : 0 < left) {r : Len} {e' m : ℕ} → Measured d s i r → r ≡ Is e' m → LenLeft d s m₀ e e' (left - 1) (sum + m)
-  left_again h {e' = e'} {m} q k =
-      let f = firstly h in
-      let x = is_len e' m f.mid (val_len f.type) (sym k ∙ q f.type f.mid f.first) in
+    -- the first member's length is exact, or past 64 bits
+    exact : {e' m : ℕ} → Measured d s i (Some (e', m)) → (e' ≡ firstly.mid) × (m ≡ val_len firstly.type)
+    exact {e'} {m} q =
+        let x = is_len e' m firstly.mid (val_len firstly.type) (q firstly.type firstly.mid firstly.first) in (x.0, x.1)
+
+    pub left_long : Measured d s i None → None ≡ len_of e (6 + val_lens m₀)
+    left_long q =
+        let x = long_len firstly.mid (val_len firstly.type) (q firstly.type firstly.mid firstly.first) in
+        sym (len_long e (6 + val_lens m₀) (omega (arith, more, w.sums)))
+
+    pub left_over : {e' m : ℕ} → Measured d s i (Some (e', m)) → ¬ (sum + m < 2 ^ 64) → None ≡ len_of e (6 + val_lens m₀)
+    left_over q l =
+        let x = (exact q).1 in
+        sym (len_long e (6 + val_lens m₀) (omega (arith, more, w.sums)))
+
+  pub left_again : {rest e' m : ℕ} → left ≡ rest + 1 → Measured d s i (Some (e', m)) → LenLeft d s m₀ e e' rest (sum + m)
+  left_again {rest} h q =
+      let k : 0 < left = omega arith in
+      let r : left - 1 ≡ rest = omega arith in
+      let x = exact k q in
       let x₁ = x.1 in
-      record { types = f.others; stands = rw x.0 f.rest; sums = omega (arith, more h, w.sums) }
+      record {
+        types = (firstly k).others;
+        stands = rw x.0 (rw r at (firstly k).rest);
+        sums = omega (arith, more k, w.sums);
+      }
 
-  pub left_over : (h : 0 < left) {r : Len} {e' m : ℕ} → Measured d s i r → r ≡ Is e' m → 18446744073709551615 - sum < m
-      → TooLong ≡ len_of e (6 + val_lens m₀)
-  left_over h {e' = e'} {m} q k l =
-      let f = firstly h in
-      let x = is_len e' m f.mid (val_len f.type) (sym k ∙ q f.type f.mid f.first) in
-      let x₁ = x.1 in
-      sym (len_long e (6 + val_lens m₀) (omega (arith, more h, w.sums)))
-
-  pub left_long : (h : 0 < left) {r : Len} → Measured d s i r → r ≡ TooLong → TooLong ≡ len_of e (6 + val_lens m₀)
-  left_long h q k =
-      let f = firstly h in
-      let x = long_len f.mid (val_len f.type) (sym k ∙ q f.type f.mid f.first) in
-      sym (len_long e (6 + val_lens m₀) (omega (arith, more h, w.sums)))
-
-  pub left_none : left ≡ 0 → sum < 2 ^ 64 → Is i sum ≡ len_of e (6 + val_lens m₀)
+  pub left_none : left ≡ 0 → sum < 2 ^ 64 → Some (i, sum) ≡ len_of e (6 + val_lens m₀)
   unfolding val_lens
   left_none h l =
       let x = none_is w.stands h in

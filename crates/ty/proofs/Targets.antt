@@ -1,8 +1,10 @@
 -- The bytes of each target, and what `read_target` gives for them.
 use mathlib.Core.Path.{◌≡◌, refl, sym, ap, ◌∙◌, subst}
-use mathlib.Core.Option.{Option, none, some}
+use mathlib.Core.Option.{Option as Maybe, none, some}
+use Rattle.std.specs.declared.option.Option.{Option}
+use Rattle.std.specs.declared.option.Option.TheVariants.{None, Some}
 use mathlib.Core.List.{List, [], append-nil}
-use mathlib.Core.Bool.{◌&&◌, true, false}
+use mathlib.Core.Bool.{◌&&◌}
 use Prim.Native.Nat.{ℕ, ◌+◌, ◌≤◌}
 use native.Mathlib.Omega.{arith}
 use lib.Dec.{T, leb, leb→le, le→leb}
@@ -17,10 +19,11 @@ use Rattle.laws.proofs.Same.{both}
 use Rattle.laws.proofs.Sound.{Bytes}
 use Rattle.laws.proofs.Exact.{target_exact}
 use Rattle.ty.specs.Stands.{Stands, OneType}
-use Rattle.ty.specs.Targets.{ArrayShape, VectorShape, MatrixShape, RuntimeTarget, TypeTarget, target_of, is_bad, Meant}
+use Rattle.ty.specs.Targets.{ArrayShape, VectorShape, MatrixShape, RuntimeTarget, TypeTarget, seen, target_of, Meant}
+use Rattle.std.proofs.lemmas.Option.{none-some, same_Some}
 use Rattle.record.proofs.Places.{view2, view3, view4}
 use Rattle.ty.specs.declared.Target.{Target}
-use Rattle.ty.specs.declared.Target.TheVariants.{«Type», Runtime, Array, Vector, Matrix, Bad}
+use Rattle.ty.specs.declared.Target.TheVariants.{«Type», Runtime, Array, Vector, Matrix}
 
 -- ---- a type that is all of the bytes
 
@@ -92,24 +95,24 @@ module _ {s : List ℕ} where
   answered : (g : trees.Target) → s ≡ target_bytes g → T (good_target g) → target_of (some g) ≡ target_of (read_target s)
   answered g e h = ap target_of (sym (ap read_target e ∙ target_exact.back g h))
 
-  pub array_answer : ArrayShape s → Array ≡ target_of (read_target s)
+  pub array_answer : ArrayShape s → Some Array ≡ target_of (read_target s)
   unfolding target_of good_target
   array_answer w = answered Qa (array_bytes w) tt
 
-  pub vector_answer : VectorShape s → Vector (get_or s 2 0) ≡ target_of (read_target s)
+  pub vector_answer : VectorShape s → Some (Vector (get_or s 2 0)) ≡ target_of (read_target s)
   unfolding target_of good_target
   vector_answer w = answered (Qv (get_or s 2 0)) (vector_bytes w) w.wide
 
-  pub matrix_answer : MatrixShape s → Matrix (get_or s 2 0) (get_or s 3 0) ≡ target_of (read_target s)
+  pub matrix_answer : MatrixShape s → Some (Matrix (get_or s 2 0) (get_or s 3 0)) ≡ target_of (read_target s)
   unfolding target_of good_target
   matrix_answer w = answered (Qm (get_or s 2 0) (get_or s 3 0)) (matrix_bytes w)
       (both (side (get_or s 2 0)) (side (get_or s 3 0)) w.wide w.high)
 
-  pub runtime_answer : RuntimeTarget s → Runtime ≡ target_of (read_target s)
+  pub runtime_answer : RuntimeTarget s → Some Runtime ≡ target_of (read_target s)
   unfolding target_of good_target
   runtime_answer w = answered (Tr w.ends.type) (runtime_bytes w) (whole_good 4092 w.ends.stands (omega (arith, w.most)))
 
-  pub type_answer_lem : TypeTarget s → «Type» ≡ target_of (read_target s)
+  pub type_answer_lem : TypeTarget s → Some «Type» ≡ target_of (read_target s)
   unfolding target_of good_target good_ty
   type_answer_lem w = answered (Of w.ends.type) (type_bytes w) (whole_good 4096 w.ends.stands (omega (arith, w.most)))
 
@@ -157,55 +160,55 @@ module _ {s : List ℕ} where
 
   module _ (b : Bytes s) where
     pub bad_answer : (ArrayShape s → ⊥) → (VectorShape s → ⊥) → (MatrixShape s → ⊥) → (RuntimeTarget s → ⊥) → (TypeTarget s → ⊥)
-        → Bad ≡ target_of (read_target s)
+        → None ≡ target_of (read_target s)
     unfolding target_of
     bad_answer f g h i j = go (read_target s) refl
       where
-        go : (o : Option trees.Target) → read_target s ≡ o → Bad ≡ target_of o
+        go : (o : Maybe trees.Target) → read_target s ≡ o → None ≡ target_of o
         go none e = refl
         go (some x) e = let y = target_exact.sound s x b e in absurd (no_target f g h i j x y.0 y.1)
 
 -- ---- what an answer says, for callers
 
-pub meant : (s : List ℕ) {r : Target} → Bytes s → r ≡ target_of (read_target s) → Meant s r
+pub meant : (s : List ℕ) {r : Option Target} {f : Target} → Bytes s → r ≡ target_of (read_target s) → r ≡ Some f → Meant s f
 unfolding target_of target_bytes good_target good_ty tr_target
-meant s b q = subst (Meant s) (sym q) (go (read_target s) refl)
+meant s {f = f} b q h = go (read_target s) refl (sym h ∙ q)
   where
-    go : (o : Option trees.Target) → read_target s ≡ o → Meant s (target_of o)
-    go none e = e
-    go (some (Of t)) e = let y = target_exact.sound s (Of t) b e in
+    told : (g : trees.Target) → read_target s ≡ some g → Meant s (seen g)
+    told (Of t) e = let y = target_exact.sound s (Of t) b e in
         record { type = t; stands = good_whole 15 4096 s 0 t y.0 (omega arith) y.1; good = y.1; reads = e }
-    go (some (Tr t)) e = let y = target_exact.sound s (Tr t) b e in let w = tr_target t y.0 y.1 in
+    told (Tr t) e = let y = target_exact.sound s (Tr t) b e in let w = tr_target t y.0 y.1 in
         record { type = t; stands = w.ends.stands; good = y.1; reads = e }
-    go (some Qa) e = e
-    go (some (Qv n)) e = (e, (target_exact.sound s (Qv n) b e).1)
-    go (some (Qm c r)) e = let y = (target_exact.sound s (Qm c r) b e).1 in (e, and_l (side c) (side r) y, and_r (side c) (side r) y)
+    told Qa e = e
+    told (Qv n) e = (e, (target_exact.sound s (Qv n) b e).1)
+    told (Qm c r) e = let y = (target_exact.sound s (Qm c r) b e).1 in (e, and_l (side c) (side r) y, and_r (side c) (side r) y)
 
--- a target that is read is not called bad
-good : (g : trees.Target) → is_bad (target_of (some g)) ≡ false
-unfolding target_of
-good (Of t) = refl
-good (Tr t) = refl
-good Qa = refl
-good (Qv n) = refl
-good (Qm c r) = refl
+    go : (o : Maybe trees.Target) → read_target s ≡ o → Some f ≡ target_of o → Meant s f
+    go none e x = absurd (none-some f (sym x))
+    go (some g) e x = subst (Meant s) (sym (same_Some f (seen g) x)) (told g e)
 
-pub record SomeTarget (s : List ℕ) : Type 0 where
-  pub target : trees.Target
-  pub reads : read_target s ≡ some target
-
-module _ (s : List ℕ) {r : Target} (q : r ≡ target_of (read_target s)) where
-  pub bad_target : is_bad r ≡ true → read_target s ≡ none
-  bad_target h = go (read_target s) q
-    where
-      go : (o : Option trees.Target) → r ≡ target_of o → o ≡ none
-      go none q = refl
-      go (some g) q = absurd (let z : ◌≡◌ {A = ℕ} 0 1 = cc (good g) in omega arith)
-
-  pub some_target : is_bad r ≡ false → SomeTarget s
+module _ (s : List ℕ) {r : Option Target} (q : r ≡ target_of (read_target s)) where
+  pub bad_target : r ≡ None → read_target s ≡ none
   unfolding target_of
-  some_target h = go (read_target s) refl q
+  bad_target h = go (read_target s) (sym h ∙ q)
     where
-      go : (o : Option trees.Target) → read_target s ≡ o → r ≡ target_of o → SomeTarget s
-      go none e q = absurd (let z : ◌≡◌ {A = ℕ} 0 1 = cc in omega arith)
-      go (some g) e q = record { target = g; reads = e }
+      go : (o : Maybe trees.Target) → None ≡ target_of o → o ≡ none
+      go none x = refl
+      go (some g) x = absurd (none-some (seen g) x)
+
+  pub some_target : {f : Target} → r ≡ Some f → (g : trees.Target) × (read_target s ≡ some g) × (f ≡ seen g)
+  unfolding target_of
+  some_target {f} h = go (read_target s) refl (sym h ∙ q)
+    where
+      go : (o : Maybe trees.Target) → read_target s ≡ o → Some f ≡ target_of o → (g : trees.Target) × (read_target s ≡ some g) × (f ≡ seen g)
+      go none e x = absurd (none-some f (sym x))
+      go (some g) e x = (g, e, same_Some f (seen g) x)
+
+-- a target that is no type and no runtime-sized array is a shape: what holds of the three shapes holds of it
+pub shape_only : (s : List ℕ) {f : Target} → (f ≡ «Type» → ⊥) → (f ≡ Runtime → ⊥) → Meant s f → (P : trees.Target → Type 0)
+    → P Qa → ((n : ℕ) → P (Qv n)) → ((c r : ℕ) → P (Qm c r)) → (g : trees.Target) × (read_target s ≡ some g) × P g
+shape_only s {f = «Type»} a b m P q v w = absurd (a refl)
+shape_only s {f = Runtime} a b m P q v w = absurd (b refl)
+shape_only s {f = Array} a b m P q v w = (Qa, m, q)
+shape_only s {f = Vector n} a b m P q v w = (Qv n, m.0, v n)
+shape_only s {f = Matrix c r} a b m P q v w = (Qm c r, m.0, w c r)

@@ -12,18 +12,19 @@ use Rattle.laws.proofs.Same.{both}
 use Rattle.record.proofs.Starts.{decides_as, decides_test}
 use Rattle.ty.specs.Stands.{Stands, StandAll, Ends, EndAll}
 use Rattle.ty.specs.TypeFronts.{Told, Same}
-use Rattle.ty.specs.declared.TypeEnd.{TypeEnd}
-use Rattle.ty.specs.declared.TypeEnd.TheVariants.{At, Bad}
 use Rattle.record.specs.Bytes.{Decides}
 use Rattle.ty.proofs.Places.{same_end}
 use Rattle.ty.proofs.Heads.{first_is}
+use Rattle.std.specs.Option.{option_eq}
+use Rattle.std.specs.declared.option.Option.{Option}
+use Rattle.std.specs.declared.option.Option.TheVariants.{None, Some}
 
 -- ---- answers
 
 -- where the ends are the same, so is the answer
-pub told_as : {X Y : ℕ → Type 0} → Same X Y → (r : TypeEnd) → Told X r → Told Y r
-told_as f (At e) h = (f e).0 h
-told_as f Bad h = λ e y. h e ((f e).1 y)
+pub told_as : {X Y : ℕ → Type 0} → Same X Y → (r : Option ℕ) → Told X r → Told Y r
+told_as f (Some e) h = (f e).0 h
+told_as f None h = λ e y. h e ((f e).1 y)
 
 pub same_trans : {X Y Z : ℕ → Type 0} → Same X Y → Same Y Z → Same X Z
 same_trans f g e = ((λ x. (g e).0 ((f e).0 x)), λ z. (f e).1 ((g e).1 z))
@@ -48,27 +49,26 @@ module _ {d : ℕ} {s : List ℕ} where
         count = omega (arith, w.count);
       }
 
-  module _ {at n : ℕ} (h : 0 < n) where
-    -- one type stands there and ends at mid: the ends of the n from there on are those of the n - 1 from mid on
-    pub one_on : {mid : ℕ} → Ends d s at mid → Same (EndAll d s mid (n - 1)) (EndAll d s at n)
-    one_on v e = (
-      (λ w. let k : n - 1 + 1 ≡ n = omega arith in record {
-        types = v.type ▸ w.types;
-        stands = rw k at (cons_stands v.stands w.stands);
-      }),
-      λ w. let f = first_is w.stands h in
-          record { types = f.others; stands = rw (same_end f.first v.stands) at f.rest },
+  module _ {at n : ℕ} where
+    -- one type stands there and ends at mid: the ends of the n from there on are those of the others from mid on
+    pub one_on : {mid m : ℕ} → n ≡ m + 1 → Ends d s at mid → Same (EndAll d s mid m) (EndAll d s at n)
+    one_on {m = m} h v e = (
+      (λ w. record { types = v.type ▸ w.types; stands = rw (sym h) at (cons_stands v.stands w.stands) }),
+      λ w. let f = first_is w.stands (let k : 0 < n = omega arith in k) in
+          let k : n - 1 ≡ m = omega arith in
+          record { types = f.others; stands = rw (same_end f.first v.stands, k) at f.rest },
     )
 
     -- no type stands there: no n types do
-    pub none_on : ((e : ℕ) → Ends d s at e → ⊥) → (e : ℕ) → EndAll d s at n e → ⊥
-    none_on f e w = let x = first_is w.stands h in f x.mid record { type = x.type; stands = x.first }
+    pub none_on : 0 < n → ((e : ℕ) → Ends d s at e → ⊥) → (e : ℕ) → EndAll d s at n e → ⊥
+    none_on h f e w = let x = first_is w.stands h in f x.mid record { type = x.type; stands = x.first }
 
 -- ---- a type that is all of the bytes
 
-module _ {d : ℕ} {s : List ℕ} {at : ℕ} where
-  -- the type that stands there ends at e: whether one ends at n is whether e is n
-  pub ends_at : {e : ℕ} (n : ℕ) → Ends d s at e → Decides (Ends d s at n) (eqb e n)
-  ends_at {e} n w =
+module _ (d : ℕ) (s : List ℕ) (at : ℕ) where
+  -- whether a type that stands there ends at n is whether n is the end that was answered
+  pub ends_at : (n : ℕ) (r : Option ℕ) → Told (Ends d s at) r → Decides (Ends d s at n) (option_eq eqb r (Some n))
+  ends_at n (Some e) w =
       decides_as (eqb e n) (decides_test {r = eqb e n} refl) (λ h. subst (Ends d s at) (eqb→eq e n h) w)
       (λ z. subst (λ (x : ℕ). T (eqb e x)) (same_end w.stands z.stands) (eqb_refl e))
+  ends_at n None w = w n

@@ -1,13 +1,15 @@
 -- What is said of a whole target's bytes.
-use Rattle.std.specs.Prelude.{List, ◌≡◌, Bool, true, false, ℕ, ◌≤◌, T, length, get_or}
-use Rattle.std.proofs.Math.Option.{Option, none, some}
+use Rattle.std.specs.Prelude.{List, ◌≡◌, ℕ, ◌≤◌, T, length, get_or}
+use Rattle.std.proofs.Math.Option.{Option as Maybe, none, some}
+use Rattle.std.specs.declared.option.Option.{Option}
+use Rattle.std.specs.declared.option.Option.TheVariants.{None, Some}
 use Rattle.meaning.specs.Trees as trees
 use Rattle.meaning.specs.Trees.{Ty, Of, Tr, Qa, Qv, Qm}
 use Rattle.meaning.specs.Records.{‘T’, ‘Q’, ‘a’, ‘v’, ‘m’, ‘r’, side, good_within, good_ty}
 use Rattle.meaning.specs.Read.{read_target}
 use Rattle.ty.specs.Stands.{Stands, Ends}
 use Rattle.ty.specs.declared.Target.{Target}
-use Rattle.ty.specs.declared.Target.TheVariants.{«Type», Runtime, Array, Vector, Matrix, Bad}
+use Rattle.ty.specs.declared.Target.TheVariants.{«Type», Runtime, Array, Vector, Matrix}
 
 -- ---- the bytes of each target
 
@@ -45,23 +47,17 @@ pub record TypeTarget (s : List ℕ) : Type 0 where
   pub most : length s ≤ 4096
   pub ends : Ends 15 s 0 (length s)
 
--- the answer for the target that was read
-unfoldable pub target_of : Option trees.Target → Target
-target_of none = Bad
-target_of (some (Of t)) = «Type»
-target_of (some (Tr t)) = Runtime
-target_of (some Qa) = Array
-target_of (some (Qv n)) = Vector n
-target_of (some (Qm c r)) = Matrix c r
+-- the answer for a target; for the target that was read
+abbrev pub seen : trees.Target → Target
+seen (Of t) = «Type»
+seen (Tr t) = Runtime
+seen Qa = Array
+seen (Qv n) = Vector n
+seen (Qm c r) = Matrix c r
 
--- the answer for bytes that are no target's
-abbrev pub is_bad : Target → Bool
-is_bad «Type» = false
-is_bad Runtime = false
-is_bad Array = false
-is_bad (Vector n) = false
-is_bad (Matrix c r) = false
-is_bad Bad = true
+unfoldable pub target_of : Maybe trees.Target → Option Target
+target_of none = None
+target_of (some g) = Some (seen g)
 
 -- ---- what an answer says, for callers
 
@@ -85,4 +81,3 @@ Meant s Runtime = RuntimeIs s
 Meant s Array = read_target s ≡ some Qa
 Meant s (Vector n) = (read_target s ≡ some (Qv n)) × T (side n)
 Meant s (Matrix c r) = (read_target s ≡ some (Qm c r)) × T (side c) × T (side r)
-Meant s Bad = read_target s ≡ none

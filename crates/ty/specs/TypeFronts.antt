@@ -4,10 +4,10 @@ use Rattle.meaning.specs.Kinds.{is_float}
 use Rattle.kind.specs.Ends.{tested, known}
 use Rattle.meaning.specs.Records.{‘T’, ‘s’, ‘v’, ‘m’, ‘a’, ‘u’, side}
 use Rattle.ty.specs.Stands.{Ends, EndAll}
-use Rattle.ty.specs.declared.TypeEnd.{TypeEnd}
-use Rattle.ty.specs.declared.TypeEnd.TheVariants.{At, Bad}
 use Rattle.ty.specs.declared.Front.{Front}
-use Rattle.ty.specs.declared.Front.TheVariants.{Whole, Array, Struct, Neither}
+use Rattle.ty.specs.declared.Front.TheVariants.{Whole, Array, Struct}
+use Rattle.std.specs.declared.option.Option.{Option}
+use Rattle.std.specs.declared.option.Option.TheVariants.{None, Some}
 
 -- ---- kinds by their numbers
 
@@ -22,9 +22,9 @@ float_number n = tested is_float n
 -- ---- answers
 
 -- a walk answers an end at which X holds, or that there is none
-abbrev pub Told : (ℕ → Type 0) → TypeEnd → Type 0
-Told X (At e) = X e
-Told X Bad = (e : ℕ) → X e → ⊥
+abbrev pub Told : (ℕ → Type 0) → Option ℕ → Type 0
+Told X (Some e) = X e
+Told X None = (e : ℕ) → X e → ⊥
 
 -- ---- the bytes of each record, up to its parts
 
@@ -82,8 +82,8 @@ pub record Parted (d : ℕ) (s : List ℕ) (at to : ℕ) (X : ℕ → Type 0) : 
   pub room : to ≤ length s
   pub same : Same X (Ends d s at)
 
-abbrev pub Fronted : ℕ → List ℕ → ℕ → Front → Type 0
-Fronted d s at (Whole e) = Ends d s at e
-Fronted d s at Array = Parted d s at (at + 4) (Ends (d - 1) s (at + 4))
-Fronted d s at (Struct n) = Parted d s at (at + 6) (EndAll (d - 1) s (at + 6) n)
-Fronted d s at Neither = (e : ℕ) → Ends d s at e → ⊥
+abbrev pub Fronted : ℕ → List ℕ → ℕ → Option Front → Type 0
+Fronted d s at (Some (Whole e)) = Ends d s at e
+Fronted d s at (Some Array) = Parted d s at (at + 4) (Ends (d - 1) s (at + 4))
+Fronted d s at (Some (Struct n)) = Parted d s at (at + 6) (EndAll (d - 1) s (at + 6) n)
+Fronted d s at None = (e : ℕ) → Ends d s at e → ⊥

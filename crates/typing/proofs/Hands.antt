@@ -16,10 +16,10 @@ use Rattle.ty.proofs.Targets.{whole_bytes}
 use Rattle.record.specs.Bytes.{Put}
 use Rattle.record.proofs.Puts.{put_two, put_put}
 use Rattle.error.specs.Told.{Told}
-use Rattle.error.specs.declared.Written.TheVariants.{Record}
 use Rattle.error.specs.Hand.{handed}
 use Rattle.error.proofs.BufferAtExit.{written}
 use Rattle.error.proofs.Handed.{handed_no, handed_yes}
+use Rattle.std.specs.declared.result.Result.TheVariants.{Ok}
 
 pub hand_type : (room : ℕ) (t : Ty) {s : List ℕ} → s ≡ ty_bytes t → hand_ty room t ≡ handed room s
 unfolding hand_ty handed
@@ -55,7 +55,7 @@ module _ {ty : List ℕ} {t : Ty} {q : ℕ} (w : Stands 15 ty 0 t q) (n : ℕ) (
 
   pub array_put : 4 + q ≤ length out → {p r : ℕ} {mid out' : List ℕ} → Put (set (set out 0 84) 1 97) 2 (le 2 n) p mid
       → Put mid p (take (q - 0) (drop 0 ty)) r out'
-      → Told (hand_ty (length out) (Ta n t)) out (Record r) out'
+      → Told (hand_ty (length out) (Ta n t)) out (Ok r) out'
   unfolding ty_bytes le
   array_put h {p} {r} {mid} {out'} x y =
       let a : take (q - 0) (drop 0 ty) ≡ ty_bytes t = ap (take (q - 0)) w.here

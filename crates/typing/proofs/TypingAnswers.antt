@@ -1,5 +1,5 @@
 -- From what was read to the answer.
-use mathlib.Core.Path.{◌≡◌, refl, ap}
+use mathlib.Core.Path.{◌≡◌, ap, ◌∙◌}
 use mathlib.Core.Option.{none, some}
 use mathlib.Core.List.{List}
 use Prim.Native.Nat.{ℕ}
@@ -8,24 +8,27 @@ use lib.ListN.{length}
 use Rattle.meaning.specs.Trees.{Ty, Ta, Target, Tr, Qa}
 use Rattle.meaning.specs.Records.{good_arg, good_ty}
 use Rattle.meaning.specs.Read.{read_target, read_tys}
-use Rattle.meaning.specs.Answers.{Result, ok, no, miscount, ◌>>=◌}
+use Rattle.meaning.specs.Answers.{Result, ok, no, ◌>>=◌}
 use Rattle.meaning.specs.Convert.{common}
 use Rattle.meaning.specs.Typing.{typed, type_qa}
-use Rattle.meaning.specs.Entries.{laid, hand_ty, type_answer}
+use Rattle.meaning.specs.Entries.{hand_ty, type_answer}
 use Rattle.laws.proofs.Exact.{tys_exact}
 use Rattle.laws.proofs.Sound.{Bytes}
 use Rattle.ty.specs.Targets.{TypeIs}
 use Rattle.args.specs.Counts.{TypeArg}
 use Rattle.args.proofs.Rest.{BothRead, NoneRead, every_all, limit, good_ty_lem}
-use Rattle.error.specs.Told.{paper, by_length, Told}
-use Rattle.error.specs.declared.Written.{Written}
-use Rattle.error.specs.declared.Written.TheVariants.{Refused, Miscount}
+use Rattle.error.specs.Refusals.{refusal}
+use Rattle.error.specs.Told.{Told}
 use Rattle.error.proofs.BufferAtExit.{refused}
+use Rattle.error.proofs.Refusals.{no_more}
 use Rattle.error.proofs.Told.{told_as}
 use Rattle.arg_types.specs.Given.{Given}
 use Rattle.check_type.specs.Rules.{WholeType}
 use Rattle.typing.specs.Hands.{Types}
 use Rattle.typing.specs.TypingAnswers.{typed_target}
+use Rattle.error.specs.Told.{Written}
+use Rattle.std.specs.declared.result.Result.TheVariants.{Err}
+use Rattle.error.specs.declared.Refusal.{Refusal}
 
 -- ---- what a rule says is answered
 
@@ -33,12 +36,9 @@ module _ (y : Result Ty) (out : List ℕ) where
   pub types_as : {z : Result Ty} {r : Written} {out' : List ℕ} → y ≡ z → Types z out r out' → Types y out r out'
   types_as e x = told_as (ap (λ (w : Result Ty). w >>= hand_ty (length out)) e) x
 
-  pub answer_no : {n : ℕ} → y ≡ no n → Types y out (Refused n) out
-  answer_no {n} e = refused n out (ap (λ (z : Result Ty). z >>= hand_ty (length out)) e)
-
-  pub answer_miscount : {w g : ℕ} → y ≡ miscount w g → Types y out (Miscount w g) out
-  unfolding paper by_length laid
-  answer_miscount e = types_as e record { says = refl; leaves = refl }
+  pub answer_no : {x : Refusal} → y ≡ refusal x → Types y out (Err x) out
+  answer_no {x} e = refused x out (ap (λ (z : Result Ty). z >>= hand_ty (length out)) e
+      ∙ no_more (hand_ty (length out)) x)
 
   pub answer_type : {t : Ty} {r : Written} {out' : List ℕ} → y ≡ ok t → Told (hand_ty (length out) t) out r out' → Types y out r out'
   answer_type e x = types_as e x
@@ -77,10 +77,6 @@ type_whole m = record { whole = m.stands; good = m.good }
 
 -- the type that the target which is read makes
 module _ (target : List ℕ) (l : List Ty) where
-  pub target_none : read_target target ≡ none → typed_target target l ≡ no 1
-  unfolding typed_target
-  target_none e = rw e
-
   -- "16 typing only: `Tr` .."
   pub target_runtime : {t : Ty} → read_target target ≡ some (Tr t) → typed_target target l ≡ no 16
   unfolding typed_target typed

@@ -6,7 +6,7 @@ use Rattle.meaning.specs.Answers.{Result, ◌>>=◌}
 use Rattle.meaning.specs.Entries.{hand_ty}
 use Rattle.ty.specs.Stands.{Stands}
 use Rattle.error.specs.Told.{Told}
-use Rattle.error.specs.declared.Written.{Written}
+use Rattle.error.specs.Told.{Written}
 
 -- a type that is named is handed over, and a refusal stays
 abbrev pub Types : Result Ty → List ℕ → Written → List ℕ → Type 0

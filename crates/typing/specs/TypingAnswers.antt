@@ -1,27 +1,25 @@
 -- The answers of typing, once the target is read.
 use Rattle.std.specs.Prelude.{List, ℕ}
-use Rattle.meaning.specs.Trees.{Ty, Tv, Tm, Qa}
+use Rattle.meaning.specs.Trees.{Ty, Of, Qa, Qv, Qm}
 use Rattle.meaning.specs.Read.{read_target}
 use Rattle.meaning.specs.Answers.{Result, or_no, ◌>>=◌}
 use Rattle.meaning.specs.Typing.{typed}
-use Rattle.ty.specs.Stands.{Whole}
-use Rattle.error.specs.declared.Written.{Written}
 use Rattle.arg_types.specs.Given.{Given}
-use Rattle.check_type.specs.Rules.{Rules}
-use Rattle.check_type.specs.declared.Checked.{Checked}
-use Rattle.infer_type.specs.Shapes.{Names}
-use Rattle.infer_type.specs.declared.Named.{Named}
+use Rattle.check_type.specs.Rules.{WholeType}
 use Rattle.typing.specs.Hands.{Types}
+use Rattle.error.specs.Told.{Written}
 
--- what a rule says is answered: the record of the type that it names, or the refusal
-abbrev pub Answers : List ℕ → Checked → List ℕ → Written → List ℕ → Type 0
-Answers target x out r out' = (t : Ty) (y : Result Ty) → Whole target t → Rules y t x → Types y out r out'
+-- what the rules for a type record, or for an untemplated shape, say is answered: the record of the type that they
+-- name, or the refusal
+abbrev pub Answers : List ℕ → List ℕ → ℕ → List ℕ → Written → List ℕ → Type 0
+Answers target args n out r out' = (t : Ty) (l : List Ty) → WholeType target t → Given args n l
+    → Types (typed (Of t) l) out r out'
 
-abbrev pub VectorAnswers : ℕ → Named → List ℕ → Written → List ℕ → Type 0
-VectorAnswers n x out r out' = (y : Result Ty) → Names (Tv n) y x → Types y out r out'
+abbrev pub VectorAnswers : ℕ → List ℕ → ℕ → List ℕ → Written → List ℕ → Type 0
+VectorAnswers m args n out r out' = (l : List Ty) → Given args n l → Types (typed (Qv m) l) out r out'
 
-abbrev pub MatrixAnswers : ℕ → ℕ → Named → List ℕ → Written → List ℕ → Type 0
-MatrixAnswers c r x out z out' = (y : Result Ty) → Names (Tm c r) y x → Types y out z out'
+abbrev pub MatrixAnswers : ℕ → ℕ → List ℕ → ℕ → List ℕ → Written → List ℕ → Type 0
+MatrixAnswers c r args n out x out' = (l : List Ty) → Given args n l → Types (typed (Qm c r) l) out x out'
 
 abbrev pub ArrayAnswers : List ℕ → ℕ → List ℕ → Written → List ℕ → Type 0
 ArrayAnswers args n out r out' = (l : List Ty) → Given args n l → Types (typed Qa l) out r out'

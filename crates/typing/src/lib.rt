@@ -8,20 +8,17 @@ ghost use Rattle.error.specs.Told.{Told};
 ghost use Rattle.ty.specs.Stands.{Ends};
 ghost use Rattle.ty.specs.Targets.{Meant};
 ghost use Rattle.arg_types.specs.Given.{SomeGiven};
+ghost use Rattle.check_type.specs.Rules.{GoodType};
 ghost use Rattle.typing.specs.Hands.{HandsVector, HandsMatrix, HandsArray};
 ghost use Rattle.typing.specs.TypingAnswers.{Answers, VectorAnswers, MatrixAnswers, ArrayAnswers, TargetAnswers};
 
-use args::Args;
-use check_type::Checked;
-use common_type::Common;
-use error::{Refusal, Written};
-use infer_type::Named;
+use error::Refusal;
 use ty::{Limit, Target};
 
 // ---- handing a record over
 
 // The record of a vector type.
-fn hand_vector(n: u8, k: u8, out: &mut [u8]) -> Written
+fn hand_vector(n: u8, k: u8, out: &mut [u8]) -> Result<usize, Refusal>
     ensures { HandsVector n k out.old result out.new }
 {
     let s = [b'T', b'v', n, b'T', b's', k];
@@ -29,7 +26,7 @@ fn hand_vector(n: u8, k: u8, out: &mut [u8]) -> Written
 }
 
 // The record of a matrix type.
-fn hand_matrix(c: u8, r: u8, k: u8, out: &mut [u8]) -> Written
+fn hand_matrix(c: u8, r: u8, k: u8, out: &mut [u8]) -> Result<usize, Refusal>
     ensures { HandsMatrix c r k out.old result out.new }
 {
     let s = [b'T', b'm', c, r, b'T', b's', k];
@@ -37,88 +34,81 @@ fn hand_matrix(c: u8, r: u8, k: u8, out: &mut [u8]) -> Written
 }
 
 // The record of an array of n elements of the type whose record stands at the front of ty, up to q.
-fn hand_array(n: usize, ty: &[u8], q: usize, out: &mut [u8]) -> Written
+fn hand_array(n: usize, ty: &[u8], q: usize, out: &mut [u8]) -> Result<usize, Refusal>
     requires { Ends 15 ty.now 0 q }
     ensures { HandsArray n ty.now q out.old result out.new }
 {
     if out.len() < 4 {
-        return Written::Refused(Refusal::NO_ROOM);
+        return Err(Refusal::NoRoom);
     }
     if q > out.len() - 4 {
-        return Written::Refused(Refusal::NO_ROOM);
+        return Err(Refusal::NoRoom);
     }
     out[0] = b'T';
     out[1] = b'a';
     let p = record::put_le(out, 2, 2, n as u64);
-    Written::Record(record::copy(ty, 0, q, out, p))
+    Ok(record::copy(ty, 0, q, out, p))
 }
 
 // ---- the answers
 
 // The target's own record, if the check passes.
-fn answer(target: &[u8], x: Checked, out: &mut [u8]) -> Written
-    ensures { Answers target.now x out.old result out.new }
+fn answer(target: &[u8], args: &[u8], n: usize, out: &mut [u8]) -> Result<usize, Refusal>
+    requires good_type { GoodType target.now }
+    requires some_given { SomeGiven args.now n }
+    ensures { Answers target.now args.now n out.old result out.new }
 {
-    match x {
-        Checked::Passed => error::hand(target, out),
-        Checked::Refused(n) => Written::Refused(n),
-        Checked::Miscount(w, g) => Written::Miscount(w, g),
-    }
+    check_type::check(target, args, n)?;
+    error::hand(target, out)
 }
 
 // The vector type that is named.
-fn answer_vector(n: u8, x: Named, out: &mut [u8]) -> Written
-    ensures { VectorAnswers n x out.old result out.new }
+fn answer_vector(n: u8, args: &[u8], count: usize, out: &mut [u8]) -> Result<usize, Refusal>
+    requires { SomeGiven args.now count }
+    ensures { VectorAnswers n args.now count out.old result out.new }
 {
-    match x {
-        Named::Of(k) => hand_vector(n, k, out),
-        Named::Refused(m) => Written::Refused(m),
-        Named::Miscount(w, g) => Written::Miscount(w, g),
-    }
+    let k = infer_type::name_vector(n, args, count)?;
+    hand_vector(n, k, out)
 }
 
 // The matrix type that is named.
-fn answer_matrix(c: u8, r: u8, x: Named, out: &mut [u8]) -> Written
-    ensures { MatrixAnswers c r x out.old result out.new }
+fn answer_matrix(c: u8, r: u8, args: &[u8], n: usize, out: &mut [u8]) -> Result<usize, Refusal>
+    requires { SomeGiven args.now n }
+    ensures { MatrixAnswers c r args.now n out.old result out.new }
 {
-    match x {
-        Named::Of(k) => hand_matrix(c, r, k, out),
-        Named::Refused(m) => Written::Refused(m),
-        Named::Miscount(w, g) => Written::Miscount(w, g),
-    }
+    let k = infer_type::name_matrix(c, r, args, n)?;
+    hand_matrix(c, r, k, out)
 }
 
 // The array of the arguments' common type (10), counted as they are.
-fn answer_array(args: &[u8], n: usize, out: &mut [u8]) -> Written
+fn answer_array(args: &[u8], n: usize, out: &mut [u8]) -> Result<usize, Refusal>
     requires { SomeGiven args.now n }
     ensures { ArrayAnswers args.now n out.old result out.new }
 {
     let mut ty = [0u8; Limit::TYPE_BYTES];
-    match common_type::common_type(args, &mut ty) {
-        Common::Of(q) => hand_array(n, &ty, q, out),
-        Common::Never => Written::Refused(Refusal::NO_COMMON_TYPE),
-    }
+    let q = common_type::common_type(args, &mut ty).ok_or(Refusal::NoCommonType)?;
+    hand_array(n, &ty, q, out)
 }
 
 // ---- the target and the arguments are read
 
 // By the target. A runtime-sized array is "16 typing only: `Tr` ..".
-fn answer_target(found: Target, target: &[u8], args: &[u8], count: usize, out: &mut [u8]) -> Written
+fn answer_target(
+    found: Target,
+    target: &[u8],
+    args: &[u8],
+    count: usize,
+    out: &mut [u8],
+) -> Result<usize, Refusal>
     requires { Meant target.now found × SomeGiven args.now count }
     ensures { TargetAnswers target.now args.now count out.old result out.new }
 {
     match found {
-        Target::Type => answer(target, check_type::check(target, args, count), out),
-        Target::Runtime => Written::Refused(Refusal::NOT_TYPED),
+        Target::Type => answer(target, args, count, out),
+        Target::Runtime => Err(Refusal::NotTyped),
         Target::Array => answer_array(args, count, out),
-        Target::Vector(n) => answer_vector(n, infer_type::name_vector(n, args, count), out),
-        Target::Matrix(c, r) => answer_matrix(
-            c,
-            r,
-            infer_type::name_matrix(c, r, args, count),
-            out,
-        ),
-        Target::Bad => Written::Refused(Refusal::BAD_TARGET),
+        Target::Vector(n) => answer_vector(n, args, count, out),
+        Target::Matrix(c, r) => answer_matrix(c, r, args, count, out),
     }
 }
 
@@ -126,16 +116,11 @@ fn answer_target(found: Target, target: &[u8], args: &[u8], count: usize, out: &
 
 // The source's `type_ctor`: the type of what the target's constructor makes of arguments of these types. Nothing is
 // assumed of the bytes; a refusal leaves the lent buffer as it was, and a record fills the front of it.
-pub fn type_ctor(target: &[u8], args: &[u8], out: &mut [u8]) -> Written
+pub fn type_ctor(target: &[u8], args: &[u8], out: &mut [u8]) -> Result<usize, Refusal>
     ensures { Told (type_answer target.now args.now (length out.old)) out.old result
         out.new }
 {
-    let found = ty::read_target(target);
-    if ty::is_bad(found) {
-        return Written::Refused(Refusal::BAD_TARGET);
-    }
-    match args::type_args(args, found) {
-        Args::Count(n) => answer_target(found, target, args, n, out),
-        Args::Bad => Written::Refused(Refusal::BAD_ARGUMENT),
-    }
+    let found = ty::read_target(target).ok_or(Refusal::BadTarget)?;
+    let count = args::type_args(args, found).ok_or(Refusal::BadArgument)?;
+    answer_target(found, target, args, count, out)
 }

@@ -1,6 +1,6 @@
 -- What is decided of one argument.
 use mathlib.Core.Path.{◌≡◌, refl, sym, ap, ◌∙◌, subst}
-use mathlib.Core.Option.{Option, none, some}
+use mathlib.Core.Option.{Option as Maybe, none, some}
 use mathlib.Core.List.{List, [], ◌∷◌, append-nil}
 use mathlib.Core.Bool.{true, false, not}
 use Prim.Native.Nat.{ℕ, ◌+◌, ◌≤◌}
@@ -21,18 +21,23 @@ use Rattle.laws.proofs.Back.{and_l}
 use Rattle.kind.specs.Ends.{of_kind}
 use Rattle.literal.specs.LiteralAnswers.{converted_of, conv_between}
 use Rattle.literal.specs.declared.Rules.{Rules}
-use Rattle.literal.specs.declared.Converted.{Converted}
-use Rattle.literal.specs.declared.Converted.TheVariants.{To, Unfit}
+use Rattle.literal.specs.declared.Unmade.{Unmade}
+use Rattle.literal.specs.LiteralAnswers.{refusal_for}
+use Rattle.error.specs.Refusals.{refusal}
+use Rattle.std.specs.declared.result.Result.{Result as Outcome}
+use Rattle.std.specs.declared.result.Result.TheVariants.{Ok, Err}
 use Rattle.record.specs.Bytes.{Put}
 use Rattle.conv.specs.Items.{SomeItems}
 use Rattle.record.specs.Values.{HasVal}
 use Rattle.args.specs.Row.{Row}
 use Rattle.args.proofs.ArgumentRows.{row_has}
 use Rattle.scalar.specs.Made.{Ctor, AllMade, Makeable, Makes}
-use Rattle.scalar.proofs.MadeValues.{Making, vec_making, making_items, making_ok, making_no, making_room, making_put, lits_made}
+use Rattle.scalar.proofs.MadeValues.{Making, vec_making, making_items, making_ok, making_no, refusal_no, making_room, making_put, lits_made}
 use Rattle.vector.specs.VectorParts.{flat}
 use Rattle.vector.proofs.Args.{IsLiteral, IsVector}
 use Rattle.vector.proofs.Lits.{conv_in}
+use Rattle.std.specs.declared.option.Option.{Option}
+use Rattle.std.specs.declared.option.Option.TheVariants.{None, Some}
 
 -- a vector has two components at least, so one part is too few
 one_short : (n : ℕ) → T (side n) → eqb 1 n ≡ false
@@ -65,7 +70,7 @@ qv_other n (Vu i l) h x = rw (one_short n h)
 
 -- a literal, as it is converted
 module _ {i : ℕ} {t : List ℕ} {v : Val} (x : IsLiteral t i v) {k : ℕ} (j : Kind) (e : k ≡ kind_no j) {b : ℕ} (q : b ≡ x.pay)
-    {c : Converted} (h : c ≡ converted_of (conv_between k (get_or t (i + 2) 0) b)) where
+    {c : Option ℕ} (h : c ≡ converted_of (conv_between k (get_or t (i + 2) 0) b)) where
   converted : c ≡ converted_of (conv j x.kind x.pay)
   unfolding conv_between of_kind
   converted = h ∙ (rw (e, x.no, q, kind_back x.kind, kind_back j))
@@ -74,26 +79,26 @@ module _ {i : ℕ} {t : List ℕ} {v : Val} (x : IsLiteral t i v) {k : ℕ} (j :
   unfolding vec_one
   vec_literal s n = ap (vec_one s n j) x.is
 
-  goes : {p : ℕ} → c ≡ To p → conv j x.kind x.pay ≡ some p
+  goes : {p : ℕ} → c ≡ Some p → conv j x.kind x.pay ≡ some p
   unfolding converted_of
   goes {p} f = go (conv j x.kind x.pay) (sym f ∙ converted)
     where
-      go : (o : Option ℕ) → To p ≡ converted_of o → o ≡ some p
+      go : (o : Maybe ℕ) → Some p ≡ converted_of o → o ≡ some p
       go none u = absurd (let z : ◌≡◌ {A = ℕ} 0 1 = cc in omega arith)
       go (some r) u = cc
 
-  pub vec_unfit : c ≡ Unfit → (s : Stage) (n : ℕ) → vec_one s n j v ≡ no 9
+  pub vec_unfit : c ≡ None → (s : Stage) (n : ℕ) → vec_one s n j v ≡ no 9
   unfolding converted_of
   vec_unfit f s n = vec_literal s n ∙ go (conv j x.kind x.pay) (sym f ∙ converted)
     where
-      go : (o : Option ℕ) → Unfit ≡ converted_of o → ◌≡◌ {A = Result Val} (or_no 9 o >>= λ p. ok (Vv j (replicate n p))) (no 9)
+      go : (o : Maybe ℕ) → None ≡ converted_of o → ◌≡◌ {A = Result Val} (or_no 9 o >>= λ p. ok (Vv j (replicate n p))) (no 9)
       go none u = refl
       go (some p) u = absurd (let z : ◌≡◌ {A = ℕ} 0 1 = cc in omega arith)
 
-  pub vec_splat : {p : ℕ} → c ≡ To p → (s : Stage) (n : ℕ) → vec_one s n j v ≡ ok (Vv j (replicate n p))
+  pub vec_splat : {p : ℕ} → c ≡ Some p → (s : Stage) (n : ℕ) → vec_one s n j v ≡ ok (Vv j (replicate n p))
   vec_splat f s n = vec_literal s n ∙ (rw (goes f))
 
-  pub splat_in : {p : ℕ} → c ≡ To p → T (good_lit j p)
+  pub splat_in : {p : ℕ} → c ≡ Some p → T (good_lit j p)
   splat_in f = conv_in j x.kind x.pay x.good (goes f)
 
 -- a vector: its length, the kind, then each component
@@ -146,14 +151,14 @@ module _ {t : List ℕ} {v : Val} (w : Row t 0 (v ∷ [])) (x : IsVector t 0 v) 
       pub good : T (every (good_lit j) pays)
       pub count : length pays ≡ n
 
-    module _ {r : ℕ} (m : AllMade rules k t 0 (length t) r) where
-      pub made_no : (r ≡ 0 → ⊥) → vec_one s n j v ≡ no r
-      made_no z = vec_refused x s n j h c.concrete (making_no (making s j) c m z)
+    module _ (r : Outcome (Unit {0}) Unmade) (m : AllMade rules k t 0 (length t) r) where
+      pub made_no : {u : Unmade} → r ≡ Err u → vec_one s n j v ≡ refusal (refusal_for u)
+      made_no {u} z = vec_refused x s n j h c.concrete (making_no (making s j) c r m z ∙ refusal_no u) ∙ sym (refusal_no u)
 
-      pub remade : r ≡ 0 → Remade
+      pub remade : {u : Unit {0}} → r ≡ Ok u → Remade
       unfolding shaped_val
       remade z =
-          let y = making_ok (making s j) c m z in
+          let y = making_ok (making s j) c r m z in
           let l = lits_made s j x.kind c.concrete x.pays has.shaped y.0 y.1 in
           record {
             pays = y.0;

@@ -14,9 +14,10 @@ use Rattle.record.specs.Literals.{Sized, literal_of}
 use Rattle.record.specs.Bytes.{Put, times, Takes}
 use Rattle.record.proofs.Puts.{put_put}
 use Rattle.error.specs.Told.{Builds}
-use Rattle.error.specs.declared.Written.TheVariants.{Record, Refused}
 use Rattle.error.proofs.BufferAtExit.{builds_long, builds_record}
 use Rattle.record.proofs.Literals.{width_of_lem, literal_bytes, literals_long, joined_times}
+use Rattle.std.specs.declared.result.Result.TheVariants.{Ok, Err}
+use Rattle.error.specs.declared.Refusal.TheVariants.{NoRoom}
 
 -- ---- a vector of the payloads ps, where r is the length that was measured
 
@@ -45,21 +46,21 @@ module _ {k most r : ℕ} (n : ℕ) (z : Sized k (λ i. val_len (Tv n i)) most r
     unfolding val_bytes vec_bytes
     bytes = omega arith
 
-    pub vector_long : length out < r → Builds (ok (Vv j ps)) out (Refused 22) out
+    pub vector_long : length out < r → Builds (ok (Vv j ps)) out (Err NoRoom) out
     vector_long h = builds_long out (Vv j ps) refl (omega (arith, long))
 
     pub whole_room : r ≤ length out → 0 + length (val_bytes (Vv j ps)) ≤ length out
     whole_room h = omega (arith, long, val_len_lem (Vv j ps) shaped)
 
     pub whole_record : r ≤ length out → {t : ℕ} {out' : List ℕ} → Put out 0 (val_bytes (Vv j ps)) t out'
-        → Builds (ok (Vv j ps)) out (Record t) out'
+        → Builds (ok (Vv j ps)) out (Ok t) out'
     whole_record h u = builds_record out (Vv j ps) refl shaped (omega (arith, long)) u
 
     module _ (h : r ≤ length out) {mid : List ℕ} {p : ℕ} (y : Put out 0 (‘V’ ∷ ‘v’ ∷ n ∷ []) p mid) where
       pub vector_room : length mid ≡ length out → p + length (joined (lit_bytes j) ps) ≤ length mid
       vector_room l = omega (arith, long, bytes, val_len_lem (Vv j ps) shaped, y.end)
 
-      pub vector_record : {t : ℕ} {out' : List ℕ} → Put mid p (joined (lit_bytes j) ps) t out' → Builds (ok (Vv j ps)) out (Record t) out'
+      pub vector_record : {t : ℕ} {out' : List ℕ} → Put mid p (joined (lit_bytes j) ps) t out' → Builds (ok (Vv j ps)) out (Ok t) out'
       unfolding val_bytes vec_bytes
       vector_record {t} {out'} u = builds_record out (Vv j ps) refl shaped (omega (arith, long)) (rw (sym q) at (put_put y u))
 

@@ -14,8 +14,8 @@ use Rattle.ty.specs.Stands.{Whole}
 use Rattle.record.specs.Bytes.{Put}
 use Rattle.args.specs.Row.{Row}
 use Rattle.error.specs.Told.{Builds}
-use Rattle.error.specs.declared.Written.{Written}
 use Rattle.vector.specs.VectorParts.{flat, marked, pay_to}
+use Rattle.error.specs.Told.{Written}
 
 -- ---- a literal repeated, a vector kept
 

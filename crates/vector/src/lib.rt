@@ -3,37 +3,35 @@
 
 ghost use Rattle.std.specs.Prelude.{◌≡◌, ◌+◌, ◌≤◌, T, get_or};
 ghost use Rattle.meaning.specs.Records.{‘s’, ‘v’, side};
-ghost use Rattle.literal.specs.LiteralAnswers.{SomeStage};
 ghost use Rattle.args.specs.Row.{SomeRow, SomeArg};
 ghost use Rattle.scalar.specs.Made.{SomeKind, OneArg};
 ghost use Rattle.vector.specs.VectorRules.{Repeats, QvOne, Splats, VecOne, PartCount, IsFlat, FirstLit, FlatCount, AllFlat};
 ghost use Rattle.vector.specs.VectorRules.{SomeRoom, PartsPut, SomeVector, VectorPut, VecParts, SomeCommon, ToCommon, QvParts};
 
-use common_type::Common;
-use error::{Refusal, Written};
+use error::Refusal;
 use kind::Scalar;
-use literal::{Converted, Rules};
+use literal::Rules;
 use ty::Limit;
 
 // ---- writing
 
 // The vector of n literals of one kind and one payload, if there is room for it: "22 the accepted record is longer than the lent buffer".
-fn repeated(n: u8, k: u8, bits: u64, out: &mut [u8]) -> Written
+fn repeated(n: u8, k: u8, bits: u64, out: &mut [u8]) -> Result<usize, Refusal>
     requires { SomeKind k }
     ensures { Repeats n k bits out.old result out.new }
 {
     if ty::vector_len(n, k) > out.len() {
-        return Written::Refused(Refusal::NO_ROOM);
+        return Err(Refusal::NoRoom);
     }
     let p = record::put_three(out, 0, b'V', b'v', n);
-    Written::Record(record::put_literals(n, k, bits, out, p))
+    Ok(record::put_literals(n, k, bits, out, p))
 }
 
 // ---- one argument
 
 // One argument to an untemplated vector: "one literal repeated; one vector of n kept (7)". Anything else is one part,
 // and a vector has at least two.
-pub fn qv_one(n: u8, args: &[u8], out: &mut [u8]) -> Written
+pub fn qv_one(n: u8, args: &[u8], out: &mut [u8]) -> Result<usize, Refusal>
     requires sides { T (side n) }
     requires one_arg { OneArg args.now }
     ensures { QvOne n args.now out.old result out.new }
@@ -46,54 +44,51 @@ pub fn qv_one(n: u8, args: &[u8], out: &mut [u8]) -> Written
     }
     if mark == b'v' {
         if args[2] != n {
-            return Written::Refused(Refusal::MISMATCH);
+            return Err(Refusal::Mismatch);
         }
         return error::hand(args, out);
     }
-    Written::Miscount(n as usize, 1)
+    Err(Refusal::Count {
+        wanted: n as usize,
+        given: 1,
+    })
 }
 
 // One literal to a vector type: "one literal converts and is repeated (9)".
-fn splat(n: u8, k: u8, args: &[u8], out: &mut [u8]) -> Written
+fn splat(n: u8, k: u8, args: &[u8], out: &mut [u8]) -> Result<usize, Refusal>
     requires some_kind { SomeKind k }
     requires one_arg { OneArg args.now }
     requires mark { get_or args.now 1 0 ≡ ‘s’ }
     ensures { Splats n k args.now out.old result out.new }
 {
-    match literal::convert_literal(k, args[2], record::payload_at(args, 0)) {
-        Converted::To(p) => repeated(n, k, p, out),
-        Converted::Unfit => Written::Refused(Refusal::NO_CONVERSION),
-    }
+    let bits = record::payload_at(args, 0);
+    let payload = literal::convert_literal(k, args[2], bits).ok_or(Refusal::NoConversion)?;
+    repeated(n, k, payload, out)
 }
 
 // One vector to a vector type: "needs equal n (7), then the scalar constructor on each component"; an abstract vector type has none (12).
-fn rebuilt(rules: Rules, n: u8, k: u8, args: &[u8], out: &mut [u8]) -> Written
-    requires some_stage { SomeStage rules }
+fn rebuilt(rules: Rules, n: u8, k: u8, args: &[u8], out: &mut [u8]) -> Result<usize, Refusal>
     requires some_kind { SomeKind k }
     requires one_arg { OneArg args.now }
     requires mark { get_or args.now 1 0 ≡ ‘v’ }
     ensures { VecOne rules n k args.now out.old result out.new }
 {
     if args[2] != n {
-        return Written::Refused(Refusal::MISMATCH);
+        return Err(Refusal::Mismatch);
     }
     let kind = Scalar { kind: k };
     if kind.is_abstract() {
-        return Written::Refused(Refusal::VECTOR_PART);
+        return Err(Refusal::VectorPart);
     }
-    let no = scalar::all_made(rules, args, 0, args.len(), k);
-    if no != 0 {
-        return Written::Refused(no);
-    }
+    scalar::all_made(rules, args, 0, args.len(), k)?;
     if ty::vector_len(n, k) > out.len() {
-        return Written::Refused(Refusal::NO_ROOM);
+        return Err(Refusal::NoRoom);
     }
-    Written::Record(scalar::write_made(rules, args, 0, args.len(), k, out, 0))
+    Ok(scalar::write_made(rules, args, 0, args.len(), k, out, 0))
 }
 
 // One argument to a vector type. Anything but a literal or a vector is one part, and a vector has at least two.
-pub fn vec_one(rules: Rules, n: u8, k: u8, args: &[u8], out: &mut [u8]) -> Written
-    requires some_stage { SomeStage rules }
+pub fn vec_one(rules: Rules, n: u8, k: u8, args: &[u8], out: &mut [u8]) -> Result<usize, Refusal>
     requires sides { T (side n) }
     requires some_kind { SomeKind k }
     requires one_arg { OneArg args.now }
@@ -106,7 +101,10 @@ pub fn vec_one(rules: Rules, n: u8, k: u8, args: &[u8], out: &mut [u8]) -> Writt
     if mark == b'v' {
         return rebuilt(rules, n, k, args, out);
     }
-    Written::Miscount(n as usize, 1)
+    Err(Refusal::Count {
+        wanted: n as usize,
+        given: 1,
+    })
 }
 
 // ---- several arguments
@@ -194,19 +192,19 @@ fn put_parts(k: u8, args: &[u8], out: &mut [u8], to: usize) -> usize
 }
 
 // The vector of those literals, if there is room for it.
-fn write_parts(n: u8, k: u8, args: &[u8], out: &mut [u8]) -> Written
+fn write_parts(n: u8, k: u8, args: &[u8], out: &mut [u8]) -> Result<usize, Refusal>
     requires { SomeVector n k args.now }
     ensures { VectorPut n k args.now out.old result out.new }
 {
     if ty::vector_len(n, k) > out.len() {
-        return Written::Refused(Refusal::NO_ROOM);
+        return Err(Refusal::NoRoom);
     }
     let p = record::put_three(out, 0, b'V', b'v', n);
-    Written::Record(put_parts(k, args, out, p))
+    Ok(put_parts(k, args, out, p))
 }
 
 // Arguments to a vector type: "vectors are flattened, count (8), then conversion (9)".
-pub fn vec_parts(n: u8, k: u8, args: &[u8], out: &mut [u8]) -> Written
+pub fn vec_parts(n: u8, k: u8, args: &[u8], out: &mut [u8]) -> Result<usize, Refusal>
     requires sides { T (side n) }
     requires some_kind { SomeKind k }
     requires some_row { SomeRow args.now 0 }
@@ -215,49 +213,47 @@ pub fn vec_parts(n: u8, k: u8, args: &[u8], out: &mut [u8]) -> Written
     let m = flat_count(args);
     let wanted = n as usize;
     if m != wanted {
-        return Written::Miscount(wanted, m);
+        return Err(Refusal::Count { wanted, given: m });
     }
     if !all_flat(args) {
-        return Written::Refused(Refusal::NO_CONVERSION);
+        return Err(Refusal::NoConversion);
     }
     if !conv::fits(args, 0, args.len(), k) {
-        return Written::Refused(Refusal::NO_CONVERSION);
+        return Err(Refusal::NoConversion);
     }
     write_parts(n, k, args, out)
 }
 
 // The parts of the arguments to their common type, whose record `ty` is: a literal that does not fit it is 10, then "scalars only (12)".
-fn to_common(n: u8, args: &[u8], ty: &[u8], out: &mut [u8]) -> Written
+fn to_common(n: u8, args: &[u8], ty: &[u8], out: &mut [u8]) -> Result<usize, Refusal>
     requires { SomeCommon n args.now ty.now }
     ensures { ToCommon n args.now ty.now out.old result out.new }
 {
     if ty[1] == b's' {
         let k = ty[2];
         if !conv::fits(args, 0, args.len(), k) {
-            return Written::Refused(Refusal::NO_COMMON_TYPE);
+            return Err(Refusal::NoCommonType);
         }
         return write_parts(n, k, args, out);
     }
     if !convert_all::all_fit(args, 0, ty, 0, Limit::DEPTH) {
-        return Written::Refused(Refusal::NO_COMMON_TYPE);
+        return Err(Refusal::NoCommonType);
     }
-    Written::Refused(Refusal::VECTOR_PART)
+    Err(Refusal::VectorPart)
 }
 
 // Arguments to an untemplated vector: "flattened count (8), common type (10), scalars only (12)".
-pub fn qv_parts(n: u8, args: &[u8], out: &mut [u8]) -> Written
+pub fn qv_parts(n: u8, args: &[u8], out: &mut [u8]) -> Result<usize, Refusal>
     requires sides { T (side n) }
     requires some_row { SomeRow args.now 0 }
     ensures { QvParts n args.now out.old result out.new }
 {
-    let count = flat_count(args);
-    let sides = n as usize;
-    if count != sides {
-        return Written::Miscount(sides, count);
+    let given = flat_count(args);
+    let wanted = n as usize;
+    if given != wanted {
+        return Err(Refusal::Count { wanted, given });
     }
     let mut ty = [0u8; Limit::TYPE_BYTES];
-    match common_type::common_type_of(args, true, &mut ty) {
-        Common::Of(q) => to_common(n, args, &ty[..q], out),
-        Common::Never => Written::Refused(Refusal::NO_COMMON_TYPE),
-    }
+    let q = common_type::common_type_of(args, true, &mut ty).ok_or(Refusal::NoCommonType)?;
+    to_common(n, args, &ty[..q], out)
 }

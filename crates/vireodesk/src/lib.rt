@@ -9,17 +9,15 @@ ghost use Rattle.call_batch.specs.Jobs.{Batched};
 ghost use Rattle.vireodesk.specs.MemoryLayouts.{layout_numbers};
 
 use call_batch::Job;
-use error::{Answer, in_numbers};
-use layout::Laid;
-use rank::Ranked;
+use error::Answer;
 
 #[unsafe(no_mangle)]
 pub extern "C" fn vireo_conversion_rank(target: &[u8], args: &[u8]) -> Answer
     ensures { result ≡ in_numbers (λ n. n) (rank_answer target.now args.now) }
 {
     match rank::conversion_rank(target, args) {
-        Ranked::Rank(n) => Answer::accepted(n as u64),
-        Ranked::Refused(n) => Answer::refused(n),
+        Ok(n) => Answer::accepted(n as u64),
+        Err(n) => Answer::refused(n),
     }
 }
 
@@ -28,7 +26,7 @@ pub extern "C" fn vireo_convert_to(target: &[u8], args: &[u8], out: &mut [u8]) -
     ensures { Records (convert_answer target.now args.now (length out.old)) out.old result
         out.new }
 {
-    in_numbers(convert_to::convert_to(target, args, out))
+    Answer::from(convert_to::convert_to(target, args, out))
 }
 
 #[unsafe(no_mangle)]
@@ -36,7 +34,7 @@ pub extern "C" fn vireo_call_ctor(stage: u8, target: &[u8], args: &[u8], out: &m
     ensures { Records (build_answer stage target.now args.now (length out.old)) out.old result
         out.new }
 {
-    in_numbers(builtin::call_ctor(stage, target, args, out))
+    Answer::from(builtin::call_ctor(stage, target, args, out))
 }
 
 #[unsafe(no_mangle)]
@@ -44,7 +42,7 @@ pub extern "C" fn vireo_type_ctor(target: &[u8], args: &[u8], out: &mut [u8]) ->
     ensures { Records (type_answer target.now args.now (length out.old)) out.old result
         out.new }
 {
-    in_numbers(typing::type_ctor(target, args, out))
+    Answer::from(typing::type_ctor(target, args, out))
 }
 
 #[unsafe(no_mangle)]
@@ -58,7 +56,7 @@ pub extern "C" fn vireo_call_batch(bytes: &[u8], jobs: &mut [Job], out: &mut [u8
 pub extern "C" fn vireo_write_layout(args: &[u8], out: &mut [u8]) -> Answer
     ensures { Records (write_answer args.now (length out.old)) out.old result out.new }
 {
-    in_numbers(write_layout::write_layout(args, out))
+    Answer::from(write_layout::write_layout(args, out))
 }
 
 #[unsafe(no_mangle)]
@@ -66,7 +64,7 @@ pub extern "C" fn vireo_read_layout(target: &[u8], memory: &[u8], out: &mut [u8]
     ensures { Records (read_answer target.now memory.now (length out.old)) out.old result
         out.new }
 {
-    in_numbers(read_layout::read_layout(target, memory, out))
+    Answer::from(read_layout::read_layout(target, memory, out))
 }
 
 // The answer of `layout_of` in numbers: the number of the refusal, or 0; and the size and the alignment.
@@ -83,13 +81,13 @@ pub extern "C" fn vireo_layout_of(target: &[u8]) -> MemoryLayout
     ensures { result ≡ layout_numbers (layout_answer target.now) }
 {
     match layout::layout_of(target) {
-        Laid::Layout(size, align) => MemoryLayout {
+        Ok(layout) => MemoryLayout {
             refusal: 0,
-            size: size as u64,
-            align: align as u64,
+            size: layout.size as u64,
+            align: layout.align as u64,
         },
-        Laid::Refused(n) => MemoryLayout {
-            refusal: n as u64,
+        Err(refusal) => MemoryLayout {
+            refusal: refusal.number() as u64,
             size: 0,
             align: 0,
         },

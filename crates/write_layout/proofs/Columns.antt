@@ -1,14 +1,15 @@
 -- Columns in a row: the first of them, and the loop that writes each with its padding.
-use mathlib.Core.Path.{◌≡◌, refl, sym, ap, ◌∙◌, subst}
+use mathlib.Core.Path.{◌≡◌, refl, sym, ap, ◌∙◌}
 use mathlib.Core.List.{List, [], ◌∷◌, ◌++◌, append_assoc}
 use Prim.Native.Nat.{ℕ, ◌+◌, ◌-◌, ◌*◌, ◌≤◌, ◌<◌}
 use native.Mathlib.Omega.{arith}
+use native.Mathlib.Nat.{sub-zero}
 use lib.ListN.{length}
 use Rattle.meaning.specs.Kinds.{Kind}
 use Rattle.meaning.specs.Records.{joined, lit_bytes, vec_bytes}
 use Rattle.meaning.specs.Layout.{scalar_size, col_stride, zeros, mem_vec, mem_col}
 use Rattle.record.specs.Bytes.{Put, Takes}
-use Rattle.record.proofs.Left.{Left, left_room, left_on, left_end}
+use Rattle.record.proofs.Left.{Left, left_all, one_less, left_room, left_on, left_end}
 use Rattle.write_layout.specs.Memory.{Literals, LiteralsRoom, LiteralsMoved, Columns}
 use Rattle.write_layout.proofs.Parts.{bytes_rest, bytes_first, bytes_none}
 
@@ -50,19 +51,24 @@ module _ {s : List ℕ} {at n r k pad e : ℕ} {j : Kind} where
   no_column {cols = []} x h = (refl, bytes_none x.bytes)
   no_column {cols = ps ∷ cols} x h = absurd (omega (arith, x.count))
 
--- ---- the loop
+-- ---- the loop: of n columns, `done` are written
 
-pub record ColumnsLeft (s : List ℕ) (r k pad e : ℕ) (j : Kind) (cols₀ : List (List ℕ)) (out₀ : List ℕ) (to i p left : ℕ) (out : List ℕ) :
+pub record ColumnsLeft (s : List ℕ) (n r k pad e : ℕ) (j : Kind) (cols₀ : List (List ℕ)) (out₀ : List ℕ) (to i p done : ℕ) (out : List ℕ) :
     Type 0 where
   pub columns : List (List ℕ)
-  pub has : Columns s i left r k pad e j columns
+  pub has : Columns s i (n - done) r k pad e j columns
   pub rest : Left out₀ to (joined (mem_col r j) cols₀) out p (joined (mem_col r j) columns)
 
-module _ {s : List ℕ} {r k pad e : ℕ} {j : Kind} {cols₀ : List (List ℕ)} {out₀ : List ℕ} {to i p left : ℕ} {out : List ℕ}
-    (g : ColumnsLeft s r k pad e j cols₀ out₀ to i p left out) where
-  module _ (h : 0 < left) where
-    here : FirstColumn s i left r k pad e j g.columns
-    here = first_column g.has h
+pub columns_all : {s : List ℕ} {at n r k pad e : ℕ} {j : Kind} {cols : List (List ℕ)} (out : List ℕ) (to : ℕ)
+    → Columns s at n r k pad e j cols → ColumnsLeft s n r k pad e j cols out to at to 0 out
+columns_all {n = n} {r = r} {j = j} {cols = cols} out to x =
+    record { columns = cols; has = rw (sub-zero n) x; rest = left_all out to (joined (mem_col r j) cols) }
+
+module _ {s : List ℕ} {n r k pad e : ℕ} {j : Kind} {cols₀ : List (List ℕ)} {out₀ : List ℕ} {to i p done : ℕ} {out : List ℕ}
+    (g : ColumnsLeft s n r k pad e j cols₀ out₀ to i p done out) where
+  module _ (h : done < n) where
+    here : FirstColumn s i (n - done) r k pad e j g.columns
+    here = first_column g.has (omega arith)
 
     behind : List ℕ
     behind = joined (mem_col r j) here.others
@@ -100,15 +106,15 @@ module _ {s : List ℕ} {r k pad e : ℕ} {j : Kind} {cols₀ : List (List ℕ)}
         column_pad l = left_room padding_left (zeros pad) behind refl l
 
         pub column_on : {t : ℕ} {out' : List ℕ} → Put between q (zeros pad) t out'
-            → ColumnsLeft s r k pad e j cols₀ out₀ to from t (left - 1) out'
+            → ColumnsLeft s n r k pad e j cols₀ out₀ to from t (done + 1) out'
         unfolding behind
         column_on z =
             record {
               columns = here.others;
-              has = subst (λ (a : ℕ). Columns s a (left - 1) r k pad e j here.others) (sym moved.0) here.next;
+              has = rw (moved.0, ← one_less n done) here.next;
               rest = left_on padding_left (zeros pad) behind refl z;
             }
 
-  pub columns_end : left ≡ 0 → (i ≡ e) × Put out₀ to (joined (mem_col r j) cols₀) p out
+  pub columns_end : done ≡ n → (i ≡ e) × Put out₀ to (joined (mem_col r j) cols₀) p out
   unfolding joined
-  columns_end h = let x = no_column g.has h in (x.1, left_end g.rest (ap (joined (mem_col r j)) x.0))
+  columns_end h = let x = no_column g.has (omega arith) in (x.1, left_end g.rest (ap (joined (mem_col r j)) x.0))

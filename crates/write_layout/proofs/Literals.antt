@@ -3,6 +3,7 @@ use mathlib.Core.Path.{◌≡◌, refl, sym, ap, ◌∙◌, subst}
 use mathlib.Core.List.{List, [], ◌∷◌, ◌++◌}
 use Prim.Native.Nat.{ℕ, ◌+◌, ◌-◌, ◌≤◌, ◌<◌}
 use native.Mathlib.Omega.{arith}
+use native.Mathlib.Nat.{sub-zero}
 use lib.ListN.{length, drop}
 use Rattle.meaning.specs.Kinds.{Kind, kind_no, pay_width}
 use Rattle.meaning.specs.Records.{le, joined, lit_bytes, every, good_lit}
@@ -12,7 +13,7 @@ use Rattle.laws.proofs.BackVal.{lit_fits_lem}
 use Rattle.laws.proofs.Length.{le_len}
 use Rattle.record.specs.Bytes.{Put, Takes, number_at}
 use Rattle.record.specs.Literals.{width_of}
-use Rattle.record.proofs.Left.{Left, left_room, left_on, left_end}
+use Rattle.record.proofs.Left.{Left, left_all, one_less, left_room, left_on, left_end}
 use Rattle.record.proofs.Literals.{width_of_lem}
 use Rattle.record.proofs.Numbers.{number_of}
 use Rattle.record.proofs.Places.{past}
@@ -63,18 +64,22 @@ module _ {s : List ℕ} {at n k e : ℕ} {j : Kind} where
   no_literal {ps = []} x h = (refl, bytes_none x.bytes)
   no_literal {ps = p ∷ ps} x h = absurd (omega (arith, x.count))
 
--- ---- the loop
+-- ---- the loop: of n literals, `done` are written
 
-pub record LiteralsLeft (s : List ℕ) (k e : ℕ) (j : Kind) (ps₀ out₀ : List ℕ) (to i p left : ℕ) (out : List ℕ) : Type 0 where
+pub record LiteralsLeft (s : List ℕ) (n k e : ℕ) (j : Kind) (ps₀ out₀ : List ℕ) (to i p done : ℕ) (out : List ℕ) : Type 0 where
   pub payloads : List ℕ
-  pub has : Literals s i left k e j payloads
+  pub has : Literals s i (n - done) k e j payloads
   pub rest : Left out₀ to (mem_vec j ps₀) out p (mem_vec j payloads)
 
-module _ {s : List ℕ} {k e : ℕ} {j : Kind} {ps₀ out₀ : List ℕ} {to i p left : ℕ} {out : List ℕ}
-    (g : LiteralsLeft s k e j ps₀ out₀ to i p left out) where
-  module _ (h : 0 < left) {w size : ℕ} (wide : w ≡ width_of k) (sized : size ≡ size_no k) where
-    here : FirstLiteral s i left k e j g.payloads
-    here = first_literal g.has h
+pub literals_all : {s : List ℕ} {at n k e : ℕ} {j : Kind} {ps : List ℕ} (out : List ℕ) (to : ℕ) → Literals s at n k e j ps
+    → LiteralsLeft s n k e j ps out to at to 0 out
+literals_all {n = n} {j = j} {ps = ps} out to x = record { payloads = ps; has = rw (sub-zero n) x; rest = left_all out to (mem_vec j ps) }
+
+module _ {s : List ℕ} {n k e : ℕ} {j : Kind} {ps₀ out₀ : List ℕ} {to i p done : ℕ} {out : List ℕ}
+    (g : LiteralsLeft s n k e j ps₀ out₀ to i p done out) where
+  module _ (h : done < n) {w size : ℕ} (wide : w ≡ width_of k) (sized : size ≡ size_no k) where
+    here : FirstLiteral s i (n - done) k e j g.payloads
+    here = first_literal g.has (omega arith)
 
     mem : mem_vec j g.payloads ≡ le size here.payload ++ mem_vec j here.others
     unfolding mem_vec joined
@@ -93,16 +98,16 @@ module _ {s : List ℕ} {k e : ℕ} {j : Kind} {ps₀ out₀ : List ℕ} {to i p
           here.payload,
     )
 
-    pub literal_on : {n q : ℕ} {out' : List ℕ} → n ≡ number_at s (i + 3) w → Put out p (le size n) q out'
-        → LiteralsLeft s k e j ps₀ out₀ to (i + (3 + w)) q (left - 1) out'
-    literal_on {n} {q} {out'} a y =
-        let m : n ≡ here.payload = a ∙ (ap (number_at s (i + 3)) wide ∙ here.num) in
+    pub literal_on : {x q : ℕ} {out' : List ℕ} → x ≡ number_at s (i + 3) w → Put out p (le size x) q out'
+        → LiteralsLeft s n k e j ps₀ out₀ to (i + (3 + w)) q (done + 1) out'
+    literal_on {x = x} a y =
+        let m : x ≡ here.payload = a ∙ (ap (number_at s (i + 3)) wide ∙ here.num) in
         record {
           payloads = here.others;
-          has = subst (λ (n : ℕ). Literals s (i + (3 + n)) (left - 1) k e j here.others) (sym wide) here.next;
+          has = subst (λ (m : ℕ). Literals s (i + (3 + m)) (n - (done + 1)) k e j here.others) (sym wide) (rw (← one_less n done) here.next);
           rest = left_on g.rest _ _ mem (rw m at y);
         }
 
-  pub literals_end : left ≡ 0 → (i ≡ e) × Put out₀ to (mem_vec j ps₀) p out
+  pub literals_end : done ≡ n → (i ≡ e) × Put out₀ to (mem_vec j ps₀) p out
   unfolding mem_vec joined
-  literals_end h = let x = no_literal g.has h in (x.1, left_end g.rest (rw x.0))
+  literals_end h = let x = no_literal g.has (omega arith) in (x.1, left_end g.rest (rw x.0))

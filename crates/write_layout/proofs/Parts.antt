@@ -1,13 +1,12 @@
 -- Bytes that stand at a place, and what is in front of the rest of them; padding, and the places of its table.
 use mathlib.Core.Path.{◌≡◌, refl, sym, ap, ◌∙◌}
-use mathlib.Core.List.{List, [], ◌∷◌, ◌++◌, append_assoc}
+use mathlib.Core.List.{List, [], ◌++◌, append_assoc}
 use Prim.Native.Nat.{ℕ, zero, suc, ◌+◌, ◌≤◌}
 use native.Mathlib.Omega.{arith}
-use lib.ListN.{length, drop, length-append}
+use lib.ListN.{replicate, length-replicate, length, drop, length-append}
 use Rattle.meaning.specs.Trees.{Ty}
 use Rattle.meaning.specs.Layout.{zeros}
 use Rattle.ty.specs.Stands.{Stands}
-use Rattle.record.specs.Bytes.{times}
 use Rattle.record.proofs.Places.{past}
 use Rattle.memory.proofs.Length.{type_long}
 use Rattle.record.specs.Values.{BytesAt}
@@ -34,10 +33,13 @@ pub bytes_none : {s : List ℕ} {at e : ℕ} → BytesAt s at e [] → at ≡ e
 bytes_none w = omega (arith, w.size)
 
 -- padding is so many zero bytes
-pub zeros_times : (n : ℕ) → zeros n ≡ times n (0 ∷ [])
-unfolding zeros times
-zeros_times zero = refl
-zeros_times (suc n) = ap (λ (l : List ℕ). 0 ∷ l) (zeros_times n)
+pub zeros_is : (n : ℕ) → zeros n ≡ replicate n 0
+unfolding zeros
+zeros_is zero = refl
+zeros_is (suc n) = rw (zeros_is n)
+
+pub zeros_long : (n : ℕ) → length (zeros n) ≡ n
+zeros_long n = rw (zeros_is n, length-replicate)
 
 -- a type's record has places for the padding inside it and before it
 pub in_table : {d : ℕ} {ty : List ℕ} {o : ℕ} {t : Ty} {q : ℕ} → Stands d ty o t q → o + 3 ≤ q

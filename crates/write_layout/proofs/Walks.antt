@@ -3,6 +3,7 @@ use mathlib.Core.Path.{◌≡◌, refl, sym, ap, ◌∙◌, subst}
 use mathlib.Core.List.{List, ◌++◌}
 use Prim.Native.Nat.{ℕ, ◌+◌, ◌-◌, ◌<◌}
 use native.Mathlib.Omega.{arith}
+use native.Mathlib.Nat.{sub-zero}
 use lib.Dec.{T}
 use lib.ListN.{length, get_or}
 use Rattle.meaning.specs.Trees.{Ty, Tys, ◌▸◌, Val, Vals, ⟨⟩, ◌▹◌, type_of, types_of, count_vals}
@@ -14,7 +15,7 @@ use Rattle.laws.proofs.BackVal.{count_types}
 use Rattle.ty.specs.Stands.{Stands, StandAll}
 use Rattle.ty.proofs.Heads.{first_is, none_is, FirstIs}
 use Rattle.record.specs.Bytes.{Put, Takes}
-use Rattle.record.proofs.Left.{Left, left_all, left_room, left_on, left_end}
+use Rattle.record.proofs.Left.{Left, left_all, one_less, left_room, left_on, left_end}
 use Rattle.record.specs.Values.{BytesAt, HasVal}
 use Rattle.memory.specs.Padding.{Padded, PaddedAll}
 use Rattle.write_layout.specs.Memory.{Value, ValueRoom, ValueMoved, Elements, Members}
@@ -51,20 +52,20 @@ module _ {s : List ℕ} {i e : ℕ} where
   no_val ⟨⟩ b h = (refl, bytes_none b)
   no_val (v ▹ l) b h = absurd (omega arith)
 
--- ---- elements: after the first, `end` is where their type's record ends
+-- ---- elements: of n, `done` are written; after the first, `end` is where their type's record ends
 
-pub record EachLeft (s : List ℕ) (q e n : ℕ) (t : Ty) (l₀ : Vals) (out₀ : List ℕ) (to end i p left : ℕ) (out : List ℕ) : Type 0 where
+pub record EachLeft (s : List ℕ) (q e n : ℕ) (t : Ty) (l₀ : Vals) (out₀ : List ℕ) (to end i p done : ℕ) (out : List ℕ) : Type 0 where
   pub values : Vals
-  pub after : left < n → end ≡ q
+  pub after : 0 < done → end ≡ q
   pub bytes : BytesAt s i e (vals_bytes values)
   pub shaped : T (shaped_vals values)
   pub types : AllTy t values
-  pub count : count_vals values ≡ left
+  pub count : count_vals values + done ≡ n
   pub rest : Left out₀ to (mem_elements l₀) out p (mem_elements values)
 
 module _ {d : ℕ} {ty : List ℕ} {o n pad : ℕ} {pads s : List ℕ} {at q e : ℕ} {t : Ty} {l₀ : Vals}
     (x : Elements d ty o n pad pads s at q e t l₀) where
-  pub each_all : (out : List ℕ) (to : ℕ) → EachLeft s q e n t l₀ out to o at to n out
+  pub each_all : (out : List ℕ) (to : ℕ) → EachLeft s q e n t l₀ out to o at to 0 out
   each_all out to =
       record {
         values = l₀;
@@ -72,12 +73,12 @@ module _ {d : ℕ} {ty : List ℕ} {o n pad : ℕ} {pads s : List ℕ} {at q e :
         bytes = x.bytes;
         shaped = x.shaped;
         types = x.types;
-        count = x.count;
+        count = omega (arith, x.count);
         rest = left_all out to (mem_elements l₀);
       }
 
-  module _ {out₀ : List ℕ} {to end i p left : ℕ} {out : List ℕ} (g : EachLeft s q e n t l₀ out₀ to end i p left out) where
-    module _ (h : 0 < left) where
+  module _ {out₀ : List ℕ} {to end i p done : ℕ} {out : List ℕ} (g : EachLeft s q e n t l₀ out₀ to end i p done out) where
+    module _ (h : done < n) where
       element : FirstVal s i e g.values
       element = first_val g.values g.bytes g.shaped (omega (arith, g.count))
 
@@ -124,7 +125,7 @@ module _ {d : ℕ} {ty : List ℕ} {o n pad : ℕ} {pads s : List ℕ} {at q e :
         pub each_pad : Takes between to (mem_elements l₀) → Takes between r (zeros pad)
         each_pad l = left_room padding_left (zeros pad) behind refl l
 
-        pub each_on : {z : ℕ} {out' : List ℕ} → Put between r (zeros pad) z out' → EachLeft s q e n t l₀ out₀ to q' e' z (left - 1) out'
+        pub each_on : {z : ℕ} {out' : List ℕ} → Put between r (zeros pad) z out' → EachLeft s q e n t l₀ out₀ to q' e' z (done + 1) out'
         unfolding count_vals behind
         each_on w =
             record {
@@ -137,28 +138,34 @@ module _ {d : ℕ} {ty : List ℕ} {o n pad : ℕ} {pads s : List ℕ} {at q e :
               rest = left_on padding_left (zeros pad) behind refl w;
             }
 
-    pub each_end : left ≡ 0 → (end ≡ q) × (i ≡ e) × Put out₀ to (mem_elements l₀) p out
+    pub each_end : done ≡ n → (end ≡ q) × (i ≡ e) × Put out₀ to (mem_elements l₀) p out
     unfolding mem_elements
     each_end h =
-        let y = no_val g.values g.bytes (g.count ∙ h) in
+        let y = no_val g.values g.bytes (omega (arith, g.count)) in
         (g.after (omega (arith, x.some)), y.1, left_end g.rest (ap mem_elements y.0))
 
--- ---- members
+-- ---- members: of n, `done` are written
 
-pub record AllLeft (d : ℕ) (ty pads s : List ℕ) (q e off₀ : ℕ) (l₀ : Vals) (out₀ : List ℕ) (to o i p left : ℕ) (out : List ℕ) : Type 0 where
+pub record AllLeft (d : ℕ) (ty : List ℕ) (n : ℕ) (pads s : List ℕ) (q e off₀ : ℕ) (l₀ : Vals) (out₀ : List ℕ) (to o i p done : ℕ)
+    (out : List ℕ) : Type 0 where
   pub values : Vals
   pub off : ℕ
-  pub are : Members d ty o left pads s i q e off values
+  pub are : Members d ty o (n - done) pads s i q e off values
   pub rest : Left out₀ to (mem_members off₀ l₀) out p (mem_members off values)
 
-module _ {d : ℕ} {ty pads s : List ℕ} {q e off₀ : ℕ} {l₀ : Vals} {out₀ : List ℕ} {to o i p left : ℕ} {out : List ℕ}
-    (g : AllLeft d ty pads s q e off₀ l₀ out₀ to o i p left out) where
-  many : count_vals g.values ≡ left
+pub all_all : {d : ℕ} {ty : List ℕ} {o n : ℕ} {pads s : List ℕ} {at q e off : ℕ} {l : Vals} (out : List ℕ) (to : ℕ)
+    → Members d ty o n pads s at q e off l → AllLeft d ty n pads s q e off l out to o at to 0 out
+all_all {n = n} {off = off} {l = l} out to x =
+    record { values = l; off = off; are = rw (sub-zero n) x; rest = left_all out to (mem_members off l) }
+
+module _ {d : ℕ} {ty : List ℕ} {n : ℕ} {pads s : List ℕ} {q e off₀ : ℕ} {l₀ : Vals} {out₀ : List ℕ} {to o i p done : ℕ} {out : List ℕ}
+    (g : AllLeft d ty n pads s q e off₀ l₀ out₀ to o i p done out) where
+  many : count_vals g.values ≡ n - done
   many = sym (count_types g.values) ∙ g.are.stands.count
 
-  module _ (h : 0 < left) where
-    type : FirstIs d ty o left (types_of g.values) q
-    type = first_is g.are.stands h
+  module _ (h : done < n) where
+    type : FirstIs d ty o (n - done) (types_of g.values) q
+    type = first_is g.are.stands (omega arith)
 
     member : FirstVal s i e g.values
     member = first_val g.values g.are.bytes g.are.shaped (omega (arith, many))
@@ -219,18 +226,18 @@ module _ {d : ℕ} {ty pads s : List ℕ} {q e off₀ : ℕ} {l₀ : Vals} {out�
           }
 
       pub all_on : {q' e' r : ℕ} {out' : List ℕ} → ValueMoved d ty o pads s i between b q' e' r out'
-          → AllLeft d ty pads s q e off₀ l₀ out₀ to q' e' r (left - 1) out'
+          → AllLeft d ty n pads s q e off₀ l₀ out₀ to q' e' r (done + 1) out'
       unfolding Padded after next
       all_on {q'} y =
           let m = y type.mid member.mid member.value value_of_lem in
-          let ts = subst (λ (k : Tys). StandAll d ty type.mid (left - 1) k q) same_types type.rest in
+          let ts = subst (λ (k : Tys). StandAll d ty type.mid (n - done - 1) k q) same_types type.rest in
           let z : o + length (ty_bytes (type_of member.value)) ≡ q' = sym
           (m.0 ∙ (type.first.size ∙ ap (λ (u : Ty). o + length (ty_bytes u)) same_type)) in
           record {
             values = member.others;
             off = next;
             are = record {
-              stands = subst (λ (a : ℕ). StandAll d ty a (left - 1) (types_of member.others) q) (sym m.0) ts;
+              stands = rw (m.0, ← one_less n done) ts;
               padded = subst (λ (a : ℕ). PaddedAll pads a next (types_of member.others)) z padded.2;
               long = g.are.long;
               bytes = subst (λ (a : ℕ). BytesAt s a e (vals_bytes member.others)) (sym m.1) member.bytes;
@@ -239,8 +246,8 @@ module _ {d : ℕ} {ty pads s : List ℕ} {q e off₀ : ℕ} {l₀ : Vals} {out�
             rest = left_on member_left (mem_bytes member.value) after refl m.2;
           }
 
-  pub all_end : left ≡ 0 → (o ≡ q) × (i ≡ e) × Put out₀ to (mem_members off₀ l₀) p out
+  pub all_end : done ≡ n → (o ≡ q) × (i ≡ e) × Put out₀ to (mem_members off₀ l₀) p out
   unfolding mem_members
   all_end h =
-      let y = no_val g.values g.are.bytes (many ∙ h) in
-      ((none_is g.are.stands h).1, y.1, left_end g.rest (ap (mem_members g.off) y.0))
+      let y = no_val g.values g.are.bytes (omega (arith, many)) in
+      ((none_is g.are.stands (omega arith)).1, y.1, left_end g.rest (ap (mem_members g.off) y.0))

@@ -10,11 +10,11 @@ use Rattle.laws.proofs.AgreeConv.{AllTy}
 use Rattle.laws.proofs.Sound.{All}
 use Rattle.record.specs.Bytes.{Put, Takes}
 use Rattle.error.specs.Told.{Told}
-use Rattle.error.specs.declared.Written.{Written}
 use Rattle.ty.specs.Stands.{Stands, StandAll, Whole}
 use Rattle.record.specs.Values.{BytesAt, HasVal}
 use Rattle.args.specs.OneValue.{OneValue}
 use Rattle.memory.specs.Padding.{Padded, PaddedAll}
+use Rattle.error.specs.Told.{Written}
 
 -- ---- literals of one kind, and columns of them
 

@@ -8,9 +8,7 @@ ghost use Rattle.error.specs.Told.{Told};
 ghost use Rattle.write_layout.specs.Memory.{LiteralsRoom, LiteralsMoved, ColumnsRoom, ColumnsMoved, ElementsRoom, ElementsMoved};
 ghost use Rattle.write_layout.specs.Memory.{MembersRoom, MembersMoved, ValueRoom, ValueMoved, SomeAsked, Writes};
 
-use args::Single;
-use error::{Refusal, Written};
-use layout::Extent;
+use error::Refusal;
 use memory::{Moved, Through};
 use ty::{Head, Limit};
 
@@ -19,13 +17,9 @@ fn put_zeros(out: &mut [u8], to: usize, n: u8) -> usize
     requires { Takes out.old to (zeros n) }
     ensures { Put out.old to (zeros n) result out.new }
 {
-    let mut p = to;
-    let mut left = n;
-    while 0 < left {
-        p = record::put_byte(out, p, 0);
-        left -= 1;
-    }
-    p
+    let end = to + usize::from(n);
+    out[to..end].fill(0);
+    end
 }
 
 // The scalars of n literals of the kind k, whose records stand at `at`: a vector's, a column's, and an array's where it has scalars.
@@ -37,11 +31,9 @@ fn write_literals(s: &[u8], at: usize, n: u16, k: u8, out: &mut [u8], to: usize)
     let size = memory::scalar_size(k);
     let mut i = at;
     let mut p = to;
-    let mut left = n;
-    while 0 < left {
+    for _ in 0..n {
         p = record::put_le(out, p, size, record::number(s, i + 3, w));
         i += 3 + w;
-        left -= 1;
     }
     Through { from: i, out: p }
 }
@@ -61,15 +53,13 @@ fn write_columns(
     requires { ColumnsRoom s.now at n r k pad out.old to }
     ensures { ColumnsMoved s.now at n r k pad out.old to result.from result.out out.new }
 {
-    let rows = record::count(r);
+    let rows = u16::from(r);
     let mut i = at;
     let mut p = to;
-    let mut left = n;
-    while 0 < left {
+    for _ in 0..n {
         let col = write_literals(s, i + 3, rows, k, out, p);
         i = col.from;
         p = put_zeros(out, col.out, pad);
-        left -= 1;
     }
     Through { from: i, out: p }
 }
@@ -96,13 +86,11 @@ fn each_element(
     let mut end = o;
     let mut i = at;
     let mut p = to;
-    let mut left = n;
-    while 0 < left {
+    for _ in 0..n {
         let w = write_value(ty, o, pads, depth, s, i, out, p);
         end = w.ty;
         i = w.from;
         p = put_zeros(out, w.out, pad);
-        left -= 1;
     }
     Moved {
         ty: end,
@@ -169,14 +157,12 @@ fn write_members(
     let mut q = o;
     let mut i = at;
     let mut p = to;
-    let mut left = n;
-    while 0 < left {
+    for _ in 0..n {
         let start = put_zeros(out, p, pads[q + 1]);
         let w = write_member(ty, q, pads, depth, s, i, out, start);
         q = w.ty;
         i = w.from;
         p = w.out;
-        left -= 1;
     }
     Moved {
         ty: q,
@@ -211,7 +197,7 @@ fn write_value(
             }
         }
         Head::Vector(n, k) => {
-            let w = write_literals(s, at + 3, record::count(n), k, out, to);
+            let w = write_literals(s, at + 3, u16::from(n), k, out, to);
             Moved {
                 ty: o + 6,
                 from: w.from,
@@ -219,7 +205,7 @@ fn write_value(
             }
         }
         Head::Matrix(c, r, k) => {
-            let w = write_columns(s, at + 4, record::count(c), r, k, pads[o], out, to);
+            let w = write_columns(s, at + 4, u16::from(c), r, k, pads[o], out, to);
             Moved {
                 ty: o + 7,
                 from: w.from,
@@ -276,7 +262,7 @@ fn write_member(
         };
     }
     if let Head::Vector(n, k) = h {
-        let w = write_literals(s, at + 3, record::count(n), k, out, to);
+        let w = write_literals(s, at + 3, u16::from(n), k, out, to);
         return Moved {
             ty: o + 6,
             from: w.from,
@@ -289,34 +275,28 @@ fn write_member(
 // ---- the entry
 
 // The one value, whose type's record `ty` is.
-fn write_one(ty: &[u8], args: &[u8], out: &mut [u8]) -> Written
+fn write_one(ty: &[u8], args: &[u8], out: &mut [u8]) -> Result<usize, Refusal>
     requires { SomeAsked ty.now args.now }
     ensures { Writes ty.now args.now out.old result out.new }
 {
     if !layout::has_layout(ty) {
-        return Written::Refused(Refusal::NO_LAYOUT);
+        return Err(Refusal::NoLayout);
     }
     let mut pads = [0u8; Limit::TYPE_BYTES];
-    match layout::measure(ty, &mut pads) {
-        Extent::Is(_, size, _) => {
-            if size > out.len() {
-                return Written::Refused(Refusal::NO_ROOM);
-            }
-            let w = write_value(ty, 0, &pads, Limit::DEPTH, args, 0, out, 0);
-            Written::Record(w.out)
-        }
-        Extent::TooLong => Written::Refused(Refusal::NO_ROOM),
+    let extent = layout::measure(ty, &mut pads).ok_or(Refusal::NoRoom)?;
+    if extent.size > out.len() {
+        return Err(Refusal::NoRoom);
     }
+    let w = write_value(ty, 0, &pads, Limit::DEPTH, args, 0, out, 0);
+    Ok(w.out)
 }
 
 // The value that the bytes are, as it lies in memory, from the first byte of the buffer on: exactly its type's size.
 // Nothing is assumed of the bytes; a refusal leaves the lent buffer as it was.
-pub fn write_layout(args: &[u8], out: &mut [u8]) -> Written
+pub fn write_layout(args: &[u8], out: &mut [u8]) -> Result<usize, Refusal>
     ensures { Told (write_answer args.now (length out.old)) out.old result out.new }
 {
     let mut buf = [0u8; Limit::TYPE_BYTES];
-    match args::one_value(args, &mut buf) {
-        Single::Of(q) => write_one(&buf[..q], args, out),
-        Single::Bad => Written::Refused(Refusal::BAD_ARGUMENT),
-    }
+    let q = args::one_value(args, &mut buf).ok_or(Refusal::BadArgument)?;
+    write_one(&buf[..q], args, out)
 }

@@ -12,20 +12,21 @@ use Rattle.meaning.specs.Answers.{ok}
 use Rattle.laws.proofs.AgreeBuild.{zero_made}
 use Rattle.record.specs.Bytes.{Put}
 use Rattle.error.specs.Told.{Builds}
-use Rattle.error.specs.declared.Written.TheVariants.{Record, Refused}
 use Rattle.error.proofs.BufferAtExit.{builds_long, builds_record}
 use Rattle.zero.specs.Zeros.{vector_of}
 use Rattle.zero.proofs.Bytes.{zero_long, vector_zero}
+use Rattle.std.specs.declared.result.Result.TheVariants.{Ok, Err}
+use Rattle.error.specs.declared.Refusal.TheVariants.{NoRoom}
 
 module _ (t : Ty) (h : T (shaped_ty t)) (out : List ℕ) where
   same : val_len (type_of (zero_of t)) ≡ val_len t
   same = ap val_len (zero_made t h).1
 
-  pub zero_refused : length out < val_len t → Builds (ok (zero_of t)) out (Refused 22) out
+  pub zero_refused : length out < val_len t → Builds (ok (zero_of t)) out (Err NoRoom) out
   zero_refused l = builds_long out (zero_of t) refl (omega (arith, same))
 
   pub zero_record : {r : ℕ} {out' : List ℕ} → val_len t ≤ length out → Put out 0 (val_bytes (zero_of t)) r out'
-      → Builds (ok (zero_of t)) out (Record r) out'
+      → Builds (ok (zero_of t)) out (Ok r) out'
   zero_record l y = builds_record out (zero_of t) refl (zero_made t h).0 (omega (arith, same)) y
 
 -- ---- a vector by the number of its kind

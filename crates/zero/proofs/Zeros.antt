@@ -1,8 +1,9 @@
 -- The arms of `write_zero`: what each writes is the zero value, and there is room for it; and the loops over elements and members.
-use mathlib.Core.Path.{◌≡◌, sym, ap, ◌∙◌, subst}
+use mathlib.Core.Path.{◌≡◌, sym, ap, ◌∙◌}
 use mathlib.Core.List.{List, ◌++◌}
 use Prim.Native.Nat.{ℕ, ◌+◌, ◌-◌, ◌≤◌, ◌<◌}
 use native.Mathlib.Omega.{arith}
+use native.Mathlib.Nat.{sub-zero}
 use lib.ListN.{length, length-append}
 use Rattle.meaning.specs.Trees.{Ty, Tys, zero_of, zeros_of}
 use Rattle.meaning.specs.Records.{val_bytes, vals_bytes}
@@ -14,7 +15,7 @@ use Rattle.ty.proofs.Heads.{scalar_is, vector_is, matrix_is, array_is, struct_is
 use Rattle.record.specs.Bytes.{Put, times, Takes}
 use Rattle.record.specs.Fronts.{array_front, struct_front}
 use Rattle.record.specs.Literals.{literal_of}
-use Rattle.record.proofs.Left.{Left, left_room, left_on, left_end, Copies, copies_room, copies_on, copies_end}
+use Rattle.record.proofs.Left.{Left, left_all, one_less, copies_all, left_room, left_on, left_end, Copies, copies_room, copies_on, copies_end}
 use Rattle.zero.specs.Zeros.{vector_of, matrix_of, ZeroRoom, Zeroes, ElementsRoom, ZeroesEach, MembersRoom, ZeroesAll}
 use Rattle.record.proofs.Puts.{put_put}
 use Rattle.zero.proofs.Bytes.{zero_long, scalar_zero, vector_zero, matrix_zero, array_zero, struct_zero, more_zeros, no_zeros}
@@ -143,38 +144,48 @@ module _ {d : ℕ} {ty : List ℕ} {at : ℕ} {out : List ℕ} {to : ℕ} (p : Z
 
 -- ---- the loop over elements: after the first, `end` is where their type's record ends
 
-pub record EachLeft (t : Ty) (e n : ℕ) (out₀ : List ℕ) (to end p left : ℕ) (out : List ℕ) : Type 0 where
-  pub after : left < n → end ≡ e
-  pub rest : Copies (val_bytes (zero_of t)) n out₀ to out p left
+pub record EachLeft (t : Ty) (e n : ℕ) (out₀ : List ℕ) (to end p i : ℕ) (out : List ℕ) : Type 0 where
+  pub after : 0 < i → end ≡ e
+  pub rest : Copies (val_bytes (zero_of t)) n out₀ to out p i
 
-module _ {d : ℕ} {ty : List ℕ} {at : ℕ} {t : Ty} {e n : ℕ} {out₀ : List ℕ} {to end p left : ℕ} {out : List ℕ} (w : Stands d ty at t e)
-    (g : EachLeft t e n out₀ to end p left out) where
-  pub each_room : 0 < left → Takes out to (times n (val_bytes (zero_of t))) → ZeroRoom d ty at out p
+pub each_first : (t : Ty) (e n : ℕ) (out : List ℕ) (to end : ℕ) → EachLeft t e n out to end to 0 out
+each_first t e n out to end = record { after = λ h. absurd (omega arith); rest = copies_all (val_bytes (zero_of t)) n out to }
+
+module _ {d : ℕ} {ty : List ℕ} {at : ℕ} {t : Ty} {e n : ℕ} {out₀ : List ℕ} {to end p i : ℕ} {out : List ℕ} (w : Stands d ty at t e)
+    (g : EachLeft t e n out₀ to end p i out) where
+  pub each_room : i < n → Takes out to (times n (val_bytes (zero_of t))) → ZeroRoom d ty at out p
   each_room h l = record { type = t; end = e; stands = w; room = omega (arith, copies_room g.rest h l, zero_long t w.shaped) }
 
-  pub each_on : 0 < left → {e' q : ℕ} {out' : List ℕ} → Zeroes d ty at out p e' q out' → EachLeft t e n out₀ to e' q (left - 1) out'
+  pub each_on : i < n → {e' q : ℕ} {out' : List ℕ} → Zeroes d ty at out p e' q out' → EachLeft t e n out₀ to e' q (i + 1) out'
   each_on h z = let y = z t e w in record { after = λ l. y.0; rest = copies_on g.rest h y.1 }
 
-  pub each_end : 1 ≤ n → left ≡ 0 → (end ≡ e) × Put out₀ to (times n (val_bytes (zero_of t))) p out
+  pub each_end : 1 ≤ n → i ≡ n → (end ≡ e) × Put out₀ to (times n (val_bytes (zero_of t))) p out
   each_end s h = (g.after (omega arith), copies_end g.rest h)
 
--- ---- the loop over members
+-- ---- the loop over members: n of them, of which i are written
 
-pub record AllLeft (d : ℕ) (ty : List ℕ) (m₀ : Tys) (e : ℕ) (out₀ : List ℕ) (to i p left : ℕ) (out : List ℕ) : Type 0 where
+pub record AllLeft (d : ℕ) (ty : List ℕ) (m₀ : Tys) (e n : ℕ) (out₀ : List ℕ) (to at p i : ℕ) (out : List ℕ) : Type 0 where
   pub types : Tys
-  pub stands : StandAll d ty i left types e
+  pub stands : StandAll d ty at (n - i) types e
   pub rest : Left out₀ to (vals_bytes (zeros_of m₀)) out p (vals_bytes (zeros_of types))
 
-module _ {d : ℕ} {ty : List ℕ} {m₀ : Tys} {e : ℕ} {out₀ : List ℕ} {to i p left : ℕ} {out : List ℕ}
-    (g : AllLeft d ty m₀ e out₀ to i p left out) where
-  module _ (h : 0 < left) where
-    first : FirstIs d ty i left g.types e
-    first = first_is g.stands h
+pub all_first : {d : ℕ} {ty : List ℕ} {m : Tys} {e n at : ℕ} (out : List ℕ) (to : ℕ) → StandAll d ty at n m e → AllLeft d ty m e n out to at to 0 out
+all_first {m = m} {n = n} out to w = record {
+  types = m;
+  stands = rw (sub-zero n) w;
+  rest = left_all out to (vals_bytes (zeros_of m));
+}
+
+module _ {d : ℕ} {ty : List ℕ} {m₀ : Tys} {e n : ℕ} {out₀ : List ℕ} {to at p i : ℕ} {out : List ℕ}
+    (g : AllLeft d ty m₀ e n out₀ to at p i out) where
+  module _ (h : i < n) where
+    first : FirstIs d ty at (n - i) g.types e
+    first = first_is g.stands (omega arith)
 
     bytes : vals_bytes (zeros_of g.types) ≡ val_bytes (zero_of first.type) ++ vals_bytes (zeros_of first.others)
     bytes = ap (λ (m : Tys). vals_bytes (zeros_of m)) first.is ∙ more_zeros first.type first.others
 
-    pub all_room : Takes out to (vals_bytes (zeros_of m₀)) → ZeroRoom d ty i out p
+    pub all_room : Takes out to (vals_bytes (zeros_of m₀)) → ZeroRoom d ty at out p
     all_room l =
         record {
           type = first.type;
@@ -188,15 +199,16 @@ module _ {d : ℕ} {ty : List ℕ} {m₀ : Tys} {e : ℕ} {out₀ : List ℕ} {t
           );
         }
 
-    pub all_on : {e' q : ℕ} {out' : List ℕ} → Zeroes d ty i out p e' q out' → AllLeft d ty m₀ e out₀ to e' q (left - 1) out'
-    all_on {e'} z =
+    pub all_on : {e' q : ℕ} {out' : List ℕ} → Zeroes d ty at out p e' q out' → AllLeft d ty m₀ e n out₀ to e' q (i + 1) out'
+    all_on z =
         let y = z first.type first.mid first.first in
         record {
           types = first.others;
-          stands = subst (λ (j : ℕ). StandAll d ty j (left - 1) first.others e) (sym y.0)
-              first.rest;
+          stands = rw (y.0, ← one_less n i) first.rest;
           rest = left_on g.rest _ _ bytes y.1;
         }
 
-  pub all_end : left ≡ 0 → (i ≡ e) × Put out₀ to (vals_bytes (zeros_of m₀)) p out
-  all_end h = let x = none_is g.stands h in (x.1, left_end g.rest (ap (λ (m : Tys). vals_bytes (zeros_of m)) x.0 ∙ no_zeros))
+  pub all_end : i ≡ n → (at ≡ e) × Put out₀ to (vals_bytes (zeros_of m₀)) p out
+  all_end h =
+      let x = none_is g.stands (omega arith) in
+      (x.1, left_end g.rest (ap (λ (m : Tys). vals_bytes (zeros_of m)) x.0 ∙ no_zeros))

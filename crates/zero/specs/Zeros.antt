@@ -7,8 +7,8 @@ use Rattle.meaning.specs.Answers.{ok}
 use Rattle.ty.specs.Stands.{Stands, StandAll, Whole}
 use Rattle.record.specs.Bytes.{Put, times, Takes}
 use Rattle.error.specs.Told.{Builds}
-use Rattle.error.specs.declared.Written.{Written}
 use Rattle.record.specs.Literals.{literal_of}
+use Rattle.error.specs.Told.{Written}
 
 -- ---- bytes
 

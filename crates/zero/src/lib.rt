@@ -10,9 +10,9 @@ ghost use Rattle.record.specs.Literals.{literal_of};
 ghost use Rattle.zero.specs.Zeros.{vector_of, matrix_of, ZeroRoom, Zeroes, ElementsRoom, ZeroesEach, MembersRoom, ZeroesAll};
 ghost use Rattle.zero.specs.Zeros.{ZeroTold, VectorTold};
 
-use error::{Refusal, Written};
+use error::Refusal;
 use kind::Scalar;
-use ty::{Head, Len, Limit};
+use ty::{Head, Limit};
 
 // Where the type's record ends, and where the value's record does.
 #[derive(Clone, Copy)]
@@ -48,10 +48,8 @@ fn put_zero_columns(c: u8, r: u8, k: u8, out: &mut [u8], to: usize) -> usize
     ensures { Put out.old to (times c (vector_of r k)) result out.new }
 {
     let mut p = to;
-    let mut left = c;
-    while 0 < left {
+    for _ in 0..c {
         p = put_vector(r, k, out, p);
-        left -= 1;
     }
     p
 }
@@ -76,12 +74,10 @@ fn put_zero_elements(ty: &[u8], at: usize, n: u16, depth: u8, out: &mut [u8], to
 {
     let mut end = at;
     let mut p = to;
-    let mut elements = n;
-    while 0 < elements {
+    for _element in 0..n {
         let w = write_zero(ty, at, depth, out, p);
         end = w.ty;
         p = w.out;
-        elements -= 1;
     }
     Zeroed { ty: end, out: p }
 }
@@ -94,12 +90,10 @@ fn put_zero_members(ty: &[u8], at: usize, n: u16, depth: u8, out: &mut [u8], to:
 {
     let mut i = at;
     let mut p = to;
-    let mut members = n;
-    while 0 < members {
+    for _member in 0..n {
         let w = write_zero(ty, i, depth, out, p);
         i = w.ty;
         p = w.out;
-        members -= 1;
     }
     Zeroed { ty: i, out: p }
 }
@@ -139,30 +133,26 @@ pub fn write_zero(ty: &[u8], at: usize, depth: u8, out: &mut [u8], to: usize) ->
 // The zero value of the type whose record the target is. Its length follows from the type, so it is measured before
 // anything is written: "22 the accepted record is longer than the lent buffer, also where its length is past 64 bits
 // (zero values of nested arrays)".
-pub fn zero_value(target: &[u8], out: &mut [u8]) -> Written
+pub fn zero_value(target: &[u8], out: &mut [u8]) -> Result<usize, Refusal>
     requires { OneType target.now }
     ensures { ZeroTold target.now out.old result out.new }
 {
-    match ty::value_len(target, 0, Limit::DEPTH) {
-        Len::Is(_, n) => {
-            if n > out.len() {
-                return Written::Refused(Refusal::NO_ROOM);
-            }
-            let w = write_zero(target, 0, Limit::DEPTH, out, 0);
-            Written::Record(w.out)
-        }
-        Len::TooLong => Written::Refused(Refusal::NO_ROOM),
+    let (_, n) = ty::value_len(target, 0, Limit::DEPTH).ok_or(Refusal::NoRoom)?;
+    if n > out.len() {
+        return Err(Refusal::NoRoom);
     }
+    let w = write_zero(target, 0, Limit::DEPTH, out, 0);
+    Ok(w.out)
 }
 
 // A vector of n zeros of the kind k: "`Qv` without arguments: AbstractInt zeros".
-pub fn zero_vector(n: u8, k: u8, out: &mut [u8]) -> Written
+pub fn zero_vector(n: u8, k: u8, out: &mut [u8]) -> Result<usize, Refusal>
     requires sides { T (side n) }
     requires kind { T (kind_number k) }
     ensures { VectorTold n k out.old result out.new }
 {
     if ty::vector_len(n, k) > out.len() {
-        return Written::Refused(Refusal::NO_ROOM);
+        return Err(Refusal::NoRoom);
     }
-    Written::Record(put_vector(n, k, out, 0))
+    Ok(put_vector(n, k, out, 0))
 }

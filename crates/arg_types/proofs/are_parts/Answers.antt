@@ -7,9 +7,6 @@ use Rattle.meaning.specs.Typing.{part_of}
 use Rattle.arg_types.proofs.Passing.{pass_no, pass_on, pass_end}
 use Rattle.arg_types.proofs.are_parts.Goals as goal
 
-pub loop-i-init : goal.loop-i-init
-loop-i-init c = λ l x. record { items = l; row = x; so = (λ b p. p) }
-
 pub is_part-requires : goal.is_part-requires
 is_part-requires c = types_standing (c.loop-i.invariant c.requires.types c.requires.row) c.loop-i-test.true
 

@@ -1,11 +1,8 @@
 -- What is left to look at decides.
 use native.Mathlib.Omega.{arith}
 use Rattle.shape.proofs.TypeRows.{types_first, types_standing, types_ends, types_next, types_less, types_on, types_end}
-use Rattle.arg_types.proofs.Members.{members_all, member_standing, member_ends, members_no, members_on, members_end}
+use Rattle.arg_types.proofs.Members.{member_standing, member_ends, members_no, members_on, members_end}
 use Rattle.arg_types.proofs.member_types_convert.Goals as goal
-
-pub loop-i-init : goal.loop-i-init
-loop-i-init c = λ l m x. members_all x
 
 pub end_of_type-e-requires : goal.end_of_type-e-requires
 end_of_type-e-requires c =

@@ -7,9 +7,6 @@ use Rattle.meaning.specs.Typing.{part_to}
 use Rattle.arg_types.proofs.Passing.{pass_no, pass_on, pass_end}
 use Rattle.arg_types.proofs.parts_to.Goals as goal
 
-pub loop-i-init : goal.loop-i-init
-loop-i-init c = λ l x. record { items = l; row = x; so = (λ j n b p. p) }
-
 pub part_converts-requires : goal.part_converts-requires
 part_converts-requires c = types_standing (c.loop-i.invariant c.requires.types c.requires.row) c.loop-i-test.true
 

@@ -1,23 +1,11 @@
 -- The sum so far, and what is left to be added.
-use Prim.Native.Nat.{◌+◌, ◌≤◌}
 use native.Mathlib.Omega.{arith}
-use lib.ListN.{length}
-use Rattle.shape.proofs.TypeRows.{type_stands, types_first, types_standing, types_less, types_on, types_end}
-use Rattle.arg_types.proofs.Components.{adds_small, adds_on, adds_end}
+use Rattle.shape.proofs.TypeRows.{types_standing, types_less, types_on, types_end}
+use Rattle.arg_types.proofs.Components.{adds_on, adds_end}
 use Rattle.arg_types.proofs.total.Goals as goal
-
-pub loop-i-init : goal.loop-i-init
-loop-i-init c = λ l x. record { items = l; row = x; so = (omega arith, omega arith) }
 
 pub component_count-requires : goal.component_count-requires
 component_count-requires c = types_standing (c.loop-i.invariant c.requires.types c.requires.row) c.loop-i-test.true
-
-pub overflow_add-sum : goal.overflow_add-sum
-overflow_add-sum c =
-    let z : c.loop-i.sum + c.component_count.result ≤ length c.args.args.now =
-    types_first (c.loop-i.invariant c.requires.types c.requires.row) c.loop-i-test.true λ t m v q. adds_small m (type_stands v) q
-    (c.component_count.ensures t _ (type_stands v)) in
-    omega (arith)
 
 pub end_of_type-i-requires : goal.end_of_type-i-requires
 end_of_type-i-requires c =

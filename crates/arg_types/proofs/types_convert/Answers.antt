@@ -1,15 +1,10 @@
 -- What is left to look at decides.
-use mathlib.Core.Path.{refl}
 use native.Mathlib.Omega.{arith}
 use Rattle.meaning.specs.Convert.{converts}
 use Rattle.meaning.specs.Records.{every}
 use Rattle.shape.proofs.TypeRows.{types_standing, types_less, types_ends, types_next, types_on, types_end}
 use Rattle.arg_types.proofs.Passing.{every_no, every_on}
 use Rattle.arg_types.proofs.types_convert.Goals as goal
-
-pub loop-i-init : goal.loop-i-init
-unfolding every
-loop-i-init c = λ l t x w. record { items = l; row = x; so = refl }
 
 pub end_of_type-e-requires : goal.end_of_type-e-requires
 unfolding every
@@ -23,10 +18,6 @@ unfolding every
 converts_at-requires-clause-ends c =
     types_ends (c.loop-i.invariant c.requires.some_type_row.types c.requires.ends.type c.requires.some_type_row.row c.requires.ends.stands) c.loop-i-test.true
     c.end_of_type-e.ensures
-
-pub converts_at-requires-clause-ends_2 : goal.converts_at-requires-clause-ends_2
-unfolding every
-converts_at-requires-clause-ends_2 c = c.requires.ends
 
 pub returns-then-not-converts_at : goal.returns-then-not-converts_at
 unfolding every

@@ -26,20 +26,10 @@ pub bounds-args-i-then-mark-eq109 : goal.bounds-args-i-then-mark-eq109
 bounds-args-i-then-mark-eq109 c = omega (arith, three_bytes c.requires.row)
 
 pub bounds-args-i-then-mark-eq109-2 : goal.bounds-args-i-then-mark-eq109-2
-bounds-args-i-then-mark-eq109-2 c =
-    omega (
-      arith,
-      (matrix_arg c.requires.row
-          c.if-mark-eq109.true).room,
-    )
+bounds-args-i-then-mark-eq109-2 c = omega (arith, (matrix_arg c.requires.row c.if-mark-eq109.true).room)
 
 pub bounds-args-i-then-mark-eq109-3 : goal.bounds-args-i-then-mark-eq109-3
-bounds-args-i-then-mark-eq109-3 c =
-    omega (
-      arith,
-      (matrix_arg c.requires.row
-          c.if-mark-eq109.true).room,
-    )
+bounds-args-i-then-mark-eq109-3 c = omega (arith, (matrix_arg c.requires.row c.if-mark-eq109.true).room)
 
 pub returns-then-mark-eq109 : goal.returns-then-mark-eq109
 returns-then-mark-eq109 c = λ v l x. matrix_first x c.if-mark-eq109.true
@@ -48,12 +38,7 @@ pub bounds-args-i-then-mark-eq97 : goal.bounds-args-i-then-mark-eq97
 bounds-args-i-then-mark-eq97 c = omega (arith, three_bytes c.requires.row)
 
 pub bounds-args-i-then-mark-eq97-2 : goal.bounds-args-i-then-mark-eq97-2
-bounds-args-i-then-mark-eq97-2 c =
-    omega (
-      arith,
-      (array_arg c.requires.row
-          c.if-mark-eq97.true).room,
-    )
+bounds-args-i-then-mark-eq97-2 c = omega (arith, (array_arg c.requires.row c.if-mark-eq97.true).room)
 
 pub returns-then-mark-eq97 : goal.returns-then-mark-eq97
 returns-then-mark-eq97 c = λ v l x. array_first x c.if-mark-eq97.true c.join.ensures
@@ -63,30 +48,21 @@ bounds-args-i-2 c = omega (arith, three_bytes c.requires.row)
 
 pub bounds-args-i-3 : goal.bounds-args-i-3
 bounds-args-i-3 c =
-    omega (
-      arith,
-      (struct_arg c.requires.row
-          c.if-mark-eq115.false c.if-mark-eq118.false
-          c.if-mark-eq109.false c.if-mark-eq97.false).room,
-    )
+    omega
+    (arith, (struct_arg c.requires.row c.if-mark-eq115.false c.if-mark-eq118.false c.if-mark-eq109.false c.if-mark-eq97.false).room)
 
 pub bounds-args-i-4 : goal.bounds-args-i-4
 bounds-args-i-4 c =
-    omega (
-      arith,
-      (struct_arg c.requires.row (search)
-          (search) c.if-mark-eq109.false c.if-mark-eq97.false).room,
-    )
+    omega
+    (arith, (struct_arg c.requires.row c.if-mark-eq115.false c.if-mark-eq118.false c.if-mark-eq109.false c.if-mark-eq97.false).room)
 
 pub bounds-args-i-5 : goal.bounds-args-i-5
 bounds-args-i-5 c =
-    omega (
-      arith,
-      (struct_arg c.requires.row
-          (search) (search) (search) c.if-mark-eq97.false).room,
-    )
+    omega
+    (arith, (struct_arg c.requires.row c.if-mark-eq115.false c.if-mark-eq118.false c.if-mark-eq109.false c.if-mark-eq97.false).room)
 
 pub returns : goal.returns
 returns c =
-    λ v l x. struct_first x (struct_arg x (search) (search) (search) (search)) c.join-2.ensures
-    c.join-3.ensures
+    λ v l x. struct_first x
+    (struct_arg x c.if-mark-eq115.false c.if-mark-eq118.false c.if-mark-eq109.false c.if-mark-eq97.false)
+    c.join-2.ensures c.join-3.ensures

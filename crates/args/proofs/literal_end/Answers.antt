@@ -3,10 +3,5 @@ use Rattle.record.proofs.Starts.{known}
 use Rattle.args.proofs.Rest.{flat_literal}
 use Rattle.args.proofs.literal_end.Goals as goal
 
-pub literal_as-requires : goal.literal_as-requires
-literal_as-requires c = known c.is_kind.ensures c.if-not-is_kind.false
-
 pub returns : goal.returns
-returns c =
-    flat_literal _ _ (known c.is_kind.ensures c.if-not-is_kind.false) c.literal_as.result
-    c.literal_as.ensures
+returns c = flat_literal _ _ (known c.is_kind.ensures c.if-not-is_kind.false) c.literal_as.result c.literal_as.ensures

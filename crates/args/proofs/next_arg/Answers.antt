@@ -21,12 +21,7 @@ pub bounds-args-i-then-args-i-eq118 : goal.bounds-args-i-then-args-i-eq118
 bounds-args-i-then-args-i-eq118 c = omega (arith, three_bytes c.requires.row)
 
 pub bounds-args-i-then-args-i-eq118-2 : goal.bounds-args-i-then-args-i-eq118-2
-bounds-args-i-then-args-i-eq118-2 c =
-    omega (
-      arith,
-      (vector_arg c.requires.row
-          c.if-args-i-eq118.true).room,
-    )
+bounds-args-i-then-args-i-eq118-2 c = omega (arith, (vector_arg c.requires.row c.if-args-i-eq118.true).room)
 
 pub returns-then-args-i-eq118 : goal.returns-then-args-i-eq118
 returns-then-args-i-eq118 c = λ v l x. vector_next x c.if-args-i-eq118.true c.vector_len.ensures

@@ -8,7 +8,7 @@ use Rattle.args.proofs.type_args.Goals as goal
 
 pub returns : goal.returns
 returns c =
-    λ g q. types_read g c.args.s.now (λ i. (c.shared_slice_known-1.given i).fits) c.count_types.result
+    λ g q. types_read g c.args.s.now (λ i. (c.type_inv.s i).fits) c.count_types.result
     (subst (λ (t : Bool). Counts (Rests ty_bytes (TypeArg (depth_for t) (bytes_for t)) c.args.s.now 0) c.count_types.result)
     (c.is_tight-tight.ensures ∙ sym (tight_is g q))
     (rw (c.depth_for.ensures, c.bytes_for.ensures) at c.count_types.ensures))

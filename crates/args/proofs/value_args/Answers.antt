@@ -4,14 +4,14 @@ use mathlib.Core.Bool.{Bool}
 use native.Mathlib.Omega.{arith}
 use Rattle.meaning.specs.Records.{val_bytes}
 use Rattle.args.specs.Counts.{is_qa, depth_for, bytes_for, Rests, ValueArg, Counts}
-use Rattle.args.specs.declared.Args.TheVariants.{Count}
 use Rattle.args.proofs.Rest.{bytes_most, depth_least, bytes_least, left_none, values_read, tight_is}
 use Rattle.args.proofs.value_args.Goals as goal
+use Rattle.std.specs.declared.option.Option.TheVariants.{Some}
 
 pub returns-then-flat-s : goal.returns-then-flat-s
 returns-then-flat-s c =
     λ g q. let f = c.flat_args-flat.ensures (depth_for (is_qa g)) (bytes_for (is_qa g)) (depth_least (is_qa g)) (bytes_least (is_qa g)) in
-    values_read g c.args.s.now (λ i. (c.shared_slice_known-1.given i).fits) (Count _)
+    values_read g c.args.s.now (λ i. (c.type_inv.s i).fits) (Some _)
     (left_none val_bytes (ValueArg (depth_for (is_qa g)) (bytes_for (is_qa g))) c.args.s.now _ _ f (omega (arith, c.if-flat-s.true)))
 
 pub other_args-requires : goal.other_args-requires
@@ -21,7 +21,7 @@ other_args-requires c =
 
 pub returns : goal.returns
 returns c =
-    λ g q. values_read g c.args.s.now (λ i. (c.shared_slice_known-1.given i).fits)
+    λ g q. values_read g c.args.s.now (λ i. (c.type_inv.s i).fits)
     c.other_args.result
     (subst (λ (t : Bool). Counts (Rests val_bytes (ValueArg (depth_for t) (bytes_for t)) c.args.s.now 0) c.other_args.result)
     (c.is_tight-tight.ensures ∙ sym (tight_is g q))

@@ -1,7 +1,7 @@
 -- The arguments, then the count, then the writing.
 use mathlib.Core.Path.{sym, ◌∙◌}
 use native.Mathlib.Omega.{arith}
-use Rattle.error.proofs.BufferAtExit.{builds_as, builds_no, builds_miscount}
+use Rattle.error.proofs.BufferAtExit.{builds_as, builds_no}
 use Rattle.array.proofs.Arrays.{array_room, array_count, array_elem, become, array_nine, array_miscount, array_ok}
 use Rattle.array.proofs.array_of.Goals as goal
 
@@ -14,7 +14,7 @@ all_convert-requires-clause-asked c =
 
 pub returns-then-not-all_convert : goal.returns-then-not-all_convert
 returns-then-not-all_convert c =
-    λ n t l w g. builds_no _ 9 (array_nine t l n (sym (c.all_convert.ensures l t _ g.row (array_elem w))
+    λ n t l w g. builds_no _ _ (array_nine t l n (sym (c.all_convert.ensures l t _ g.row (array_elem w))
     ∙ c.if-not-all_convert.true))
 
 pub bounds-target-2 : goal.bounds-target-2
@@ -27,7 +27,7 @@ pub returns-then-count-wanted : goal.returns-then-count-wanted
 returns-then-count-wanted c =
     λ n t l w g. let b = become t l (sym (c.all_convert.ensures l t _ g.row (array_elem w))
     ∙ c.if-not-all_convert.false) in
-    builds_miscount _ _ _ (array_miscount t l b (c.join-wanted.ensures ∙ array_count w) g.count c.if-count-wanted.true)
+    builds_no _ _ (array_miscount t l b (c.join-wanted.ensures ∙ array_count w) g.count c.if-count-wanted.true)
 
 pub write_array-requires : goal.write_array-requires
 write_array-requires c =

@@ -1,6 +1,7 @@
 -- The common type, then the literals, then the writing.
 use mathlib.Core.Path.{sym, ◌∙◌}
 use Rattle.error.proofs.BufferAtExit.{builds_as, builds_no}
+use Rattle.error.proofs.Refusals.{passed_on, missing, present}
 use Rattle.common_type.proofs.CommonAnswer.{common_of, common_none}
 use Rattle.convert_all.proofs.ConvertedLists.{common_to}
 use Rattle.array.proofs.Arrays.{become, qa_none, qa_ten, qa_ok}
@@ -8,19 +9,19 @@ use Rattle.array.proofs.qa_of.Goals as goal
 
 pub all_fit-requires : goal.all_fit-requires
 all_fit-requires c =
-    let f = common_of _ c.common_type_of.result c.common_type_of.new.ty (c.common_type_of.ensures c.requires.1.values (search)) c.in-Of.is in
+    let f = common_of _ c.common_type_of.result c.common_type_of.new.ty (c.common_type_of.ensures c.requires.1.values (search)) (present _ _ c.ok_or.ensures.value c.in_ok-ok_or.was) in
     record { values = _; row = search; type = f.type; end = _; stands = f.stands; converts = common_to c.requires.1.values f.type f.is }
 
 pub returns-then-not-all_fit : goal.returns-then-not-all_fit
 returns-then-not-all_fit c =
-    λ l g. let f = common_of _ c.common_type_of.result c.common_type_of.new.ty (c.common_type_of.ensures l g.row) c.in-Of.is in
-    builds_no _ 10 (qa_ten l f.is (sym (c.all_fit.ensures l f.type _ g.row f.stands)
+    λ l g. let f = common_of _ c.common_type_of.result c.common_type_of.new.ty (c.common_type_of.ensures l g.row) (present _ _ c.ok_or.ensures.value c.in_ok-ok_or.was) in
+    builds_no _ _ (qa_ten l f.is (sym (c.all_fit.ensures l f.type _ g.row f.stands)
     ∙ c.if-not-all_fit.true))
 
 pub write_array-requires : goal.write_array-requires
 write_array-requires c =
     let f = common_of _ c.common_type_of.result c.common_type_of.new.ty (c.common_type_of.ensures c.requires.1.values c.requires.1.given.row)
-    c.in-Of.is in
+    (present _ _ c.ok_or.ensures.value c.in_ok-ok_or.was) in
     let b = become f.type c.requires.1.values (sym (c.all_fit.ensures _ f.type _ c.requires.1.given.row f.stands)
     ∙ c.if-not-all_fit.false) in
     record {
@@ -31,10 +32,10 @@ write_array-requires c =
       elements = record { given = c.requires.1.given; least = c.requires.0; stands = f.stands; goes = b.goes };
     }
 
-pub returns-else-not-all_fit : goal.returns-else-not-all_fit
-returns-else-not-all_fit c =
+pub returns : goal.returns
+returns c =
     λ l g. let f = common_of _ c.common_type_of.result c.common_type_of.new.ty (c.common_type_of.ensures l g.row)
-    c.in-Of.is in
+    (present _ _ c.ok_or.ensures.value c.in_ok-ok_or.was) in
     let b = become f.type l (sym (c.all_fit.ensures l f.type _ g.row
     f.stands) ∙ c.if-not-all_fit.false) in
     builds_as _ (qa_ok l f.is b) (c.write_array.ensures f.type _ l b.intos
@@ -46,7 +47,8 @@ returns-else-not-all_fit c =
       goes = b.goes;
     })
 
-pub returns-in-Never : goal.returns-in-Never
-returns-in-Never c =
-    λ l g. let f = common_none _ c.common_type_of.result c.common_type_of.new.ty (c.common_type_of.ensures l g.row) c.in-Never.is in
-    builds_no _ 10 (qa_none l f)
+pub returns-in_err-ok_or : goal.returns-in_err-ok_or
+returns-in_err-ok_or c =
+    let m = missing _ _ c.ok_or.ensures.value c.in_err-ok_or.was in
+    rw (passed_on c.from_residual.result c.from_residual.ensures.1, m.1)
+    (λ l g. builds_no _ _ (qa_none l (common_none _ c.common_type_of.result c.common_type_of.new.ty (c.common_type_of.ensures l g.row) m.0)))

@@ -6,7 +6,7 @@ use Rattle.array.proofs.runtime_of.Goals as goal
 
 pub returns-then-not-all_convert : goal.returns-then-not-all_convert
 returns-then-not-all_convert c =
-    λ t l w g. builds_no _ 9 (runtime_nine t l (sym (c.all_convert.ensures l t _ g.row w)
+    λ t l w g. builds_no _ _ (runtime_nine t l (sym (c.all_convert.ensures l t _ g.row w)
     ∙ c.if-not-all_convert.true))
 
 pub write_array-requires : goal.write_array-requires

@@ -1,11 +1,11 @@
 -- The count, then the members, then the writing.
 use mathlib.Core.Path.{sym, ◌∙◌}
-use Rattle.error.proofs.BufferAtExit.{builds_as, builds_no, builds_miscount}
+use Rattle.error.proofs.BufferAtExit.{builds_as, builds_no}
 use Rattle.array.proofs.Structs.{struct_pairs, struct_miscount, struct_no, struct_yes}
 use Rattle.array.proofs.struct_of.Goals as goal
 
 pub returns-then-count-members : goal.returns-then-count-members
-returns-then-count-members c = λ i m l w g. builds_miscount _ _ _ (struct_miscount i m l (c.member_count-members.ensures i m w) g.count c.if-count-members.true)
+returns-then-count-members c = λ i m l w g. builds_no _ _ (struct_miscount i m l (c.member_count-members.ensures i m w) g.count c.if-count-members.true)
 
 pub members_convert-requires : goal.members_convert-requires
 members_convert-requires c =
@@ -19,7 +19,7 @@ members_convert-requires c =
 pub returns-then-not-members_convert : goal.returns-then-not-members_convert
 returns-then-not-members_convert c =
     λ i m l w g. let n = sym g.count ∙ (c.if-count-members.false ∙ c.member_count-members.ensures i m w) in
-    builds_no _ 9 (struct_no i m l n (sym (c.members_convert.ensures m l (struct_pairs w g.row n))
+    builds_no _ _ (struct_no i m l n (sym (c.members_convert.ensures m l (struct_pairs w g.row n))
     ∙ c.if-not-members_convert.true))
 
 pub write_struct-requires : goal.write_struct-requires

@@ -6,8 +6,8 @@ use lib.Dec.{leb}
 use Rattle.array.proofs.Lengths.{is_long, past_room}
 use Rattle.array.proofs.takes.Goals as goal
 
-pub returns-in-Is : goal.returns-in-Is
-returns-in-Is c = λ e n h. ap (λ (m : ℕ). leb m c.args.room) (is_long e n h c.in-Is.is)
+pub returns : goal.returns
+returns c = λ e n h. ap (λ (m : ℕ). leb m c.args.room) (is_long e n h c.in-Some.is)
 
-pub returns-in-TooLong : goal.returns-in-TooLong
-returns-in-TooLong c = λ e n h. past_room e n h (λ m. m) c.args.room c.in-TooLong.is (omega arith) (omega arith)
+pub returns-in_default : goal.returns-in_default
+returns-in_default c = λ e n h. past_room e n h (λ m. m) c.args.room c.in_default.is (omega arith) (omega arith)

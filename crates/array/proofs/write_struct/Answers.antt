@@ -20,17 +20,16 @@ put_mark-p-requires c =
           (c.if-not-takes.false),
     )
 
-pub copy-q-requires : goal.copy-q-requires
-copy-q-requires c =
+pub slice_bounds-put_bytes-end : goal.slice_bounds-put_bytes-end
+slice_bounds-put_bytes-end c = omega (arith, struct_room c.requires.made.struct.whole)
+
+pub put_bytes-q-requires : goal.put_bytes-q-requires
+put_bytes-q-requires c =
     let h = made_room c.requires.made c.args.out.now
     (c.takes.ensures _ _
     (c.value_len.ensures _ _ c.requires.made.struct.whole))
-    (c.if-not-takes.false) in (
-      omega arith,
-      omega (arith, struct_room c.requires.made.struct.whole),
-      omega
-          (arith, h, c.put_mark-p.ensures.end, c.put_mark-p.auto.out),
-    )
+    (c.if-not-takes.false) in
+    omega (arith, h, struct_room c.requires.made.struct.whole, c.put_mark-p.ensures.end, c.put_mark-p.auto.out)
 
 pub write_members-requires : goal.write_members-requires
 write_members-requires c =
@@ -48,10 +47,10 @@ write_members-requires c =
         arith,
         h,
         c.put_mark-p.ensures.end,
-        c.copy-q.ensures.end,
+        c.put_bytes-q.ensures.end,
         struct_front_long c.requires.made.struct.whole,
         c.put_mark-p.auto.out,
-        c.copy-q.auto.out,
+        c.put_bytes-q.auto.out,
       );
     }
 

@@ -9,7 +9,7 @@ use Rattle.builtin.proofs.matrix_given.Goals as goal
 
 pub returns-then-count-eq0 : goal.returns-then-count-eq0
 unfolding build
-returns-then-count-eq0 c = λ s l g. builds_none (build s (Qm _ _)) l g c.if-count-eq0.true (builds_no _ 11 refl)
+returns-then-count-eq0 c = λ s l g. builds_none (build s (Qm _ _)) l g c.if-count-eq0.true (builds_no _ _ refl)
 
 pub qm_one-requires : goal.qm_one-requires
 unfolding build

@@ -9,7 +9,7 @@ use Rattle.builtin.proofs.runtime_given.Goals as goal
 
 pub returns-then-count-eq0 : goal.returns-then-count-eq0
 unfolding build
-returns-then-count-eq0 c = λ s t w l g. builds_none (build s (Tr t)) l g c.if-count-eq0.true (builds_no _ 4 refl)
+returns-then-count-eq0 c = λ s t w l g. builds_none (build s (Tr t)) l g c.if-count-eq0.true (builds_no _ _ refl)
 
 pub runtime_of-requires : goal.runtime_of-requires
 unfolding build

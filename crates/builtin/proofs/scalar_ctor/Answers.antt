@@ -22,12 +22,12 @@ pub returns-then-is_abstract : goal.returns-then-is_abstract
 unfolding build
 returns-then-is_abstract c =
     λ s j e q l g. builds_more (build s (Of (Ts j))) l g (omega
-    (arith, c.requires.2, c.if-count-eq1.false))
-    (λ v u m x. builds_no _ 4 (more_abstract j (sym (abstract_is j q c.is_abstract.ensures) ∙ c.if-is_abstract.true) v _))
+    (arith, c.requires.1, c.if-count-eq1.false))
+    (λ v u m x. builds_no _ _ (more_abstract j (sym (abstract_is j q c.is_abstract.ensures) ∙ c.if-is_abstract.true) v _))
 
 pub returns : goal.returns
 unfolding build
 returns c =
     λ s j e q l g. builds_more (build s (Of (Ts j))) l g (omega
-    (arith, c.requires.2, c.if-count-eq1.false))
-    (λ v u m x. builds_no _ 5 (more_concrete j (sym (abstract_is j q c.is_abstract.ensures) ∙ c.if-is_abstract.false) v _))
+    (arith, c.requires.1, c.if-count-eq1.false))
+    (λ v u m x. builds_no _ _ (more_concrete j (sym (abstract_is j q c.is_abstract.ensures) ∙ c.if-is_abstract.false) v _))

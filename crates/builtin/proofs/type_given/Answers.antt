@@ -19,51 +19,50 @@ returns-then-count-eq0 c =
 pub scalar_ctor-requires : goal.scalar_ctor-requires
 unfolding build
 scalar_ctor-requires c =
-    let x = scalar_is c.requires.1.stands
-    (sym c.in-Scalar.is ∙ c.head_at.ensures _ _ c.requires.1.stands) in
-    (c.requires.0, record { kind = x.kind; no = x.no }, omega (arith, c.if-count-eq0.false), c.requires.2)
+    let x = scalar_is c.requires.0.stands
+    (sym c.in-Scalar.is ∙ c.head_at.ensures _ _ c.requires.0.stands) in
+    (record { kind = x.kind; no = x.no }, omega (arith, c.if-count-eq0.false), c.requires.1)
 
 pub vec_ctor-requires : goal.vec_ctor-requires
 unfolding build
 vec_ctor-requires c =
-    let x = vector_is c.requires.1.stands
-    (sym c.in-Vector.is ∙ c.head_at.ensures _ _ c.requires.1.stands) in (
-      c.requires.0,
-      vector_side c.requires.1.stands x.is,
+    let x = vector_is c.requires.0.stands
+    (sym c.in-Vector.is ∙ c.head_at.ensures _ _ c.requires.0.stands) in (
+      vector_side c.requires.0.stands x.is,
       record { kind = x.kind; no = x.no },
       omega
           (arith, c.if-count-eq0.false),
-      c.requires.2,
+      c.requires.1,
     )
 
 pub mat_ctor-requires : goal.mat_ctor-requires
 unfolding build
 mat_ctor-requires c =
-    let x = matrix_is c.requires.1.stands (sym c.in-Matrix.is
-    ∙ c.head_at.ensures _ _ c.requires.1.stands) in
-    let y = matrix_sides c.requires.1.stands x.is x.no in
-    (c.requires.0, y.0, y.1, y.2, omega (arith, c.if-count-eq0.false), c.requires.2)
+    let x = matrix_is c.requires.0.stands (sym c.in-Matrix.is
+    ∙ c.head_at.ensures _ _ c.requires.0.stands) in
+    let y = matrix_sides c.requires.0.stands x.is x.no in
+    (y.0, y.1, y.2, omega (arith, c.if-count-eq0.false), c.requires.1)
 
 pub array_of-requires : goal.array_of-requires
 unfolding build
 array_of-requires c =
-    let x = array_is c.requires.1.stands (sym c.in-Array.is
-    ∙ c.head_at.ensures _ _ c.requires.1.stands) in
+    let x = array_is c.requires.0.stands (sym c.in-Array.is
+    ∙ c.head_at.ensures _ _ c.requires.0.stands) in
     record {
       number = _;
       type = x.elem;
-      values = c.requires.2.values;
-      whole = subst (Whole _) x.is c.requires.1.stands;
-      given = c.requires.2.given;
+      values = c.requires.1.values;
+      whole = subst (Whole _) x.is c.requires.0.stands;
+      given = c.requires.1.given;
       least = omega (arith, c.if-count-eq0.false);
     }
 
 pub struct_of-requires : goal.struct_of-requires
 unfolding build
 struct_of-requires c =
-    let x = struct_is c.requires.1.stands (sym c.in-Struct.is
-    ∙ c.head_at.ensures _ _ c.requires.1.stands) in
-    record { identity = _; types = x.members; values = c.requires.2.values; whole = subst (Whole _) x.is c.requires.1.stands; given = c.requires.2.given }
+    let x = struct_is c.requires.0.stands (sym c.in-Struct.is
+    ∙ c.head_at.ensures _ _ c.requires.0.stands) in
+    record { identity = _; types = x.members; values = c.requires.1.values; whole = subst (Whole _) x.is c.requires.0.stands; given = c.requires.1.given }
 
 pub returns-in-Scalar : goal.returns-in-Scalar
 unfolding build

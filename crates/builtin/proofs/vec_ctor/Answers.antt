@@ -17,15 +17,15 @@ returns-then-count-eq1 c =
 
 pub vec_parts-requires-clause-sides : goal.vec_parts-requires-clause-sides
 unfolding build build_one build_more
-vec_parts-requires-clause-sides c = c.requires.1
+vec_parts-requires-clause-sides c = c.requires.0
 
 pub vec_parts-requires-clause-some_kind : goal.vec_parts-requires-clause-some_kind
 unfolding build build_one build_more
-vec_parts-requires-clause-some_kind c = c.requires.2
+vec_parts-requires-clause-some_kind c = c.requires.1
 
 pub vec_parts-requires-clause-some_row : goal.vec_parts-requires-clause-some_row
 unfolding build build_one build_more
-vec_parts-requires-clause-some_row c = record { values = c.requires.4.values; row = c.requires.4.given.row }
+vec_parts-requires-clause-some_row c = record { values = c.requires.3.values; row = c.requires.3.given.row }
 
 pub returns : goal.returns
 unfolding build build_one build_more

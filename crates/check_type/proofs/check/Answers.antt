@@ -3,28 +3,10 @@ use mathlib.Core.Path.{sym, ◌∙◌}
 use Rattle.check_type.proofs.Whole.{elem_ends, some_struct, whole_scalar, whole_vector, whole_matrix, whole_array, whole_struct}
 use Rattle.check_type.proofs.check.Goals as goal
 
-pub head_at-requires : goal.head_at-requires
-head_at-requires c = record { type = _; end = _; stands = c.requires.good_type.is.whole }
-
-pub check_scalar-requires : goal.check_scalar-requires
-check_scalar-requires c = c.requires.some_given
-
-pub check_vector-requires : goal.check_vector-requires
-check_vector-requires c = c.requires.some_given
-
-pub check_matrix-requires : goal.check_matrix-requires
-check_matrix-requires c = c.requires.some_given
-
-pub check_array-requires-clause-some_type_row : goal.check_array-requires-clause-some_type_row
-check_array-requires-clause-some_type_row c = record { types = _; row = c.requires.some_given.given.row }
-
 pub check_array-requires-clause-ends : goal.check_array-requires-clause-ends
 check_array-requires-clause-ends c =
     elem_ends c.requires.good_type.is
     (sym c.in-Array.is ∙ c.head_at.ensures _ _ c.requires.good_type.is.whole)
-
-pub check_struct-requires-clause-some_given : goal.check_struct-requires-clause-some_given
-check_struct-requires-clause-some_given c = c.requires.some_given
 
 pub check_struct-requires-clause-some_struct : goal.check_struct-requires-clause-some_struct
 check_struct-requires-clause-some_struct c = some_struct c.requires.good_type.is (sym c.in-Struct.is ∙ c.head_at.ensures _ _ c.requires.good_type.is.whole)

@@ -9,9 +9,6 @@ use Rattle.check_type.proofs.check_matrix.Goals as goal
 pub returns-then-n-eq0 : goal.returns-then-n-eq0
 returns-then-n-eq0 c = λ j l n g. search (of_none, matrix_typeable, given_none)
 
-pub check_matrix_one-requires : goal.check_matrix_one-requires
-check_matrix_one-requires c = record { types = _; given = given_alone c.requires.given c.if-n-eq1.true }
-
 pub returns-then-n-eq1 : goal.returns-then-n-eq1
 returns-then-n-eq1 c =
     λ j l n g. let x = given_one g c.if-n-eq1.true in

@@ -1,32 +1,39 @@
 -- A matrix of the size, another one, or no matrix.
 use mathlib.Core.List.{◌∷◌, []}
-use mathlib.Core.Path.{refl, subst}
+use mathlib.Core.Path.{refl, sym, ◌∙◌}
 use Rattle.meaning.specs.Trees.{Tm}
+use Rattle.ty.proofs.Heads.{matrix_is}
+use Rattle.arg_types.proofs.Fronts.{no_matrix}
 use Rattle.arg_types.proofs.Given.{given_one}
+use Rattle.arg_types.proofs.Singles.{equal_size, other_columns, other_rows}
 use Rattle.check_type.proofs.Checks.{rules_as}
-use Rattle.check_type.proofs.Matrices.{mat_like, mat_unlike, mat_other}
+use Rattle.check_type.proofs.Matrices.{mat_sized, mat_other}
 use Rattle.shape.proofs.TypeRows.{type_whole}
-use Rattle.arg_types.specs.Given.{LikeIs}
-use Rattle.arg_types.specs.declared.Single.{Single}
 use Rattle.check_type.proofs.check_matrix_one.Goals as goal
 
-pub one_matrix-requires : goal.one_matrix-requires
-one_matrix-requires c = let x = given_one c.requires.given refl in record { type = _; stands = x.whole }
+pub head_at-requires : goal.head_at-requires
+head_at-requires c = record { type = _; end = _; stands = (given_one c.requires.given refl).whole }
 
-pub returns-in-Like : goal.returns-in-Like
-returns-in-Like c =
-    λ j t n g. mat_like c.args.c c.args.r j t
-    (subst (λ (x : Single). LikeIs c.args.c c.args.r t x) c.in-Like.is
-    (c.one_matrix.ensures t (type_whole g.row)))
+pub returns-in-Matrix : goal.returns-in-Matrix
+returns-in-Matrix c =
+    λ j t n g. let w = type_whole g.row in
+    mat_sized c.args.c c.args.r j (matrix_is w (sym c.in-Matrix.is ∙ c.head_at.ensures t _ w)).is
+    (equal_size _ _ _ _ c.if-a-c.true c.if-b-r.true)
 
-pub returns-in-Unlike : goal.returns-in-Unlike
-returns-in-Unlike c =
-    λ j t n g. mat_unlike c.args.c c.args.r j t
-    (subst (λ (x : Single). LikeIs c.args.c c.args.r t x) c.in-Unlike.is
-    (c.one_matrix.ensures t (type_whole g.row)))
+pub returns-in-Matrix-2 : goal.returns-in-Matrix-2
+returns-in-Matrix-2 c =
+    λ j t n g. let w = type_whole g.row in
+    mat_sized c.args.c c.args.r j (matrix_is w (sym c.in-Matrix.is ∙ c.head_at.ensures t _ w)).is
+    (other_rows _ _ _ _ c.if-a-c.true c.if-b-r.false)
 
-pub returns-in-Other : goal.returns-in-Other
-returns-in-Other c =
+pub returns-in-Matrix-2-2 : goal.returns-in-Matrix-2-2
+returns-in-Matrix-2-2 c =
+    λ j t n g. let w = type_whole g.row in
+    mat_sized c.args.c c.args.r j (matrix_is w (sym c.in-Matrix.is ∙ c.head_at.ensures t _ w)).is
+    (other_columns _ _ _ _ c.if-a-c.false)
+
+pub returns-in_default : goal.returns-in_default
+returns-in_default c =
     λ j t n g. rules_as (Tm c.args.c c.args.r j) c.check_matrix_parts.result
-    (mat_other c.args.c c.args.r j t (subst (λ (x : Single). LikeIs c.args.c c.args.r t x) c.in-Other.is
-    (c.one_matrix.ensures t (type_whole g.row)))) (c.check_matrix_parts.ensures j (t ∷ []) n g)
+    (mat_other c.args.c c.args.r j (no_matrix (c.head_at.ensures t _ (type_whole g.row)) c.in_default.not-Matrix))
+    (c.check_matrix_parts.ensures j (t ∷ []) n g)

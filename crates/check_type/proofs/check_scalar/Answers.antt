@@ -22,16 +22,16 @@ scalar_kind-requires c =
     let x = given_one c.requires.given c.if-n-ne1.false in
     record { type = _; end = _; stands = x.whole }
 
-pub returns-in-Kind : goal.returns-in-Kind
-returns-in-Kind c =
+pub returns-in-Some : goal.returns-in-Some
+returns-in-Some c =
     λ j l e g. let x = given_one g c.if-n-ne1.false in
     of_one (Ts j) (scalar_typeable j e (search) c.if-is_abstract.false) x.is
     ∙ scalar_one j x.type (found_kind (lit_kind x.type)
-    (sym c.in-Kind.is ∙ c.scalar_kind.ensures x.type _ x.whole))
+    (sym c.in-Some.is ∙ c.scalar_kind.ensures x.type _ x.whole))
 
-pub returns-in-Nothing : goal.returns-in-Nothing
-returns-in-Nothing c =
+pub returns-in-None : goal.returns-in-None
+returns-in-None c =
     λ j l e g. let x = given_one g c.if-n-ne1.false in
     of_one (Ts j) (scalar_typeable j e (search) c.if-is_abstract.false) x.is
     ∙ scalar_not j x.type (found_none (lit_kind x.type)
-    (sym c.in-Nothing.is ∙ c.scalar_kind.ensures x.type _ x.whole))
+    (sym c.in-None.is ∙ c.scalar_kind.ensures x.type _ x.whole))

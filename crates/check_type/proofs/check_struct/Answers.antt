@@ -14,9 +14,6 @@ returns-then-n-m c =
     λ i ms l x g. struct_miscount i ms l (given_some g c.if-n-eq0.false) (λ z. c.if-n-m.true (g.count ∙ (z ∙ sym x.count)))
     ∙ ap₂ miscount (sym x.count) (sym g.count)
 
-pub member_types_convert-requires : goal.member_types_convert-requires
-member_types_convert-requires c = record { types = _; wanted = _; members = members_of c.requires.some_struct.is c.requires.some_given.given c.if-n-m.false }
-
 pub returns-then-not-member_types_convert : goal.returns-then-not-member_types_convert
 returns-then-not-member_types_convert c =
     λ i ms l x g. struct_no i ms l (given_some g c.if-n-eq0.false) (sym g.count ∙ (c.if-n-m.false ∙ x.count))

@@ -1,10 +1,10 @@
 -- By the front of the one type.
-use mathlib.Core.Path.{sym, ◌∙◌}
-use Rattle.check_type.proofs.Checks.{one_converts, one_not, one_same, one_other, one_matrix, one_array, one_struct}
+use mathlib.Core.Path.{◌≡◌, refl, sym, ◌∙◌}
+use Rattle.meaning.specs.Answers.{no}
+use Rattle.meaning.specs.Typing.{type_vec_one}
+use Rattle.arg_types.proofs.Fronts.{neither}
+use Rattle.check_type.proofs.Checks.{one_converts, one_not, one_same, one_other}
 use Rattle.check_type.proofs.check_vector_one.Goals as goal
-
-pub head_at-requires : goal.head_at-requires
-head_at-requires c = record { type = _; end = _; stands = c.requires.stands }
 
 pub returns-then-kind_converts : goal.returns-then-kind_converts
 returns-then-kind_converts c =
@@ -26,11 +26,8 @@ returns-else-p-m c =
     λ j a e w. one_other w _ j (sym c.in-Vector.is ∙ c.head_at.ensures a _ w)
     c.if-p-m.false
 
-pub returns-in-Matrix : goal.returns-in-Matrix
-returns-in-Matrix c = λ j a e w. one_matrix w _ j (sym c.in-Matrix.is ∙ c.head_at.ensures a _ w)
-
-pub returns-in-Array : goal.returns-in-Array
-returns-in-Array c = λ j a e w. one_array w _ j (sym c.in-Array.is ∙ c.head_at.ensures a _ w)
-
-pub returns-in-Struct : goal.returns-in-Struct
-returns-in-Struct c = λ j a e w. one_struct w _ j (sym c.in-Struct.is ∙ c.head_at.ensures a _ w)
+pub returns-in_default : goal.returns-in_default
+unfolding type_vec_one
+returns-in_default c =
+    λ j a e w. neither a (c.head_at.ensures a _ w) c.in_default.not-Scalar c.in_default.not-Vector
+    (λ u. type_vec_one c.args.m j u ≡ no 7) (λ p q k. refl) (λ n u. refl) (λ i m. refl)

@@ -4,14 +4,8 @@ use Rattle.meaning.specs.Answers.{miscount}
 use Rattle.check_type.proofs.Checks.{parts_not, parts_miscount, parts_pass}
 use Rattle.check_type.proofs.check_vector_parts.Goals as goal
 
-pub parts_to-requires : goal.parts_to-requires
-parts_to-requires c = record { types = _; row = c.requires.given.row }
-
 pub returns-then-not-parts_to : goal.returns-then-not-parts_to
 returns-then-not-parts_to c = λ j l e g. parts_not _ j l (c.parts_to.ensures j l e g.row) (c.if-not-parts_to.true)
-
-pub total-requires : goal.total-requires
-total-requires c = record { types = _; row = c.requires.given.row }
 
 pub returns-then-total-m : goal.returns-then-total-m
 returns-then-total-m c =

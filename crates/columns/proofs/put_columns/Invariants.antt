@@ -6,10 +6,7 @@ use Rattle.columns.specs.Columns.{Scalars}
 use Rattle.columns.proofs.Columns.{ColumnsLeft}
 use Rattle.columns.proofs.put_columns.Given as goal
 
-abbrev pub invariant-loop-left : goal.invariant-loop-left
-invariant-loop-left l =
+abbrev pub invariant-loop : goal.invariant-loop
+invariant-loop l =
     (j : Kind) (qs : List ℕ) → Scalars l.c l.r l.k l.args j qs
-    → ColumnsLeft j l.args l.c l.r l.initial.out l.to qs l.i l.p l.left l.out
-
-abbrev pub decreases-loop-left : goal.decreases-loop-left
-decreases-loop-left l = l.left
+    → ColumnsLeft j l.args l.c l.r l.initial.out l.to qs l.i l.p l.counter l.out

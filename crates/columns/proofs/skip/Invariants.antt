@@ -7,8 +7,5 @@ use Rattle.args.specs.Row.{Row}
 use Rattle.columns.proofs.Columns.{SkipLeft}
 use Rattle.columns.proofs.skip.Given as goal
 
-abbrev pub invariant-loop-left : goal.invariant-loop-left
-invariant-loop-left v = (l : List Val) → Row v.args v.i l → v.n ≤ length l → SkipLeft v.args v.i v.n l v.e v.left
-
-abbrev pub decreases-loop-left : goal.decreases-loop-left
-decreases-loop-left l = l.left
+abbrev pub invariant-loop : goal.invariant-loop
+invariant-loop v = (l : List Val) → Row v.args v.i l → v.n ≤ length l → SkipLeft v.args v.i v.n l v.e v.counter

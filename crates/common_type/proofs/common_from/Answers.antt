@@ -1,22 +1,13 @@
 -- The type so far and what is left come to the whole.
-use mathlib.Core.Path.{refl, sym, ◌∙◌}
+use mathlib.Core.Path.{refl, ◌∙◌}
 use native.Mathlib.Omega.{arith}
 use Rattle.shape.proofs.Places.{cut_whole}
 use Rattle.args.proofs.ArgumentRows.{args_some, args_first, args_less, args_on, args_end}
 use Rattle.common_type.proofs.SoFar.{part_ends, so_on, so_never, so_end}
 use Rattle.common_type.proofs.common_from.Goals as goal
 
-pub loop-at-init : goal.loop-at-init
-loop-at-init c = (refl, refl, λ l t w v. record { items = l; row = w; so = record { type = t; stands = v; same = refl } })
-
-pub slice_bounds-next_part-end : goal.slice_bounds-next_part-end
-slice_bounds-next_part-end c = sym c.loop-at.invariant.1
-
 pub next_part-part-requires-clause-some_arg : goal.next_part-part-requires-clause-some_arg
 next_part-part-requires-clause-some_arg c = args_some (c.loop-at.invariant.2 _ _ c.requires.rest.row c.requires.so_far.stands) c.loop-at-test.true
-
-pub next_part-part-requires-clause-ty_len : goal.next_part-part-requires-clause-ty_len
-next_part-part-requires-clause-ty_len c = c.loop-at.invariant.1
 
 pub slice_bounds-meet-count : goal.slice_bounds-meet-count
 slice_bounds-meet-count c =
@@ -47,16 +38,12 @@ meet-requires c =
           (arith, w.size, x.size, x.within, c.loop-at.invariant.0, c.loop-at.invariant.1, c.requires.room, c.next_part-part.auto.ty);
     }
 
-pub shape_of-ty-in-Never : goal.shape_of-ty-in-Never
-shape_of-ty-in-Never c =
-    c.meet.auto.ty ∙
-    c.loop-at.invariant.0
-
-pub returns-in-Never : goal.returns-in-Never
-returns-in-Never c =
-    λ l t w v. args_first (c.loop-at.invariant.2 l t w v)
+pub returns-in_err-end : goal.returns-in_err-end
+returns-in_err-end c =
+    λ l t w v. rw c.from_residual.ensures (args_first (c.loop-at.invariant.2 l t w v)
     (search) λ a k x q.
-    so_never q refl (cut_whole (c.next_part-part.ensures a k x).stands (omega arith)) c.meet.result c.meet.new.ty c.meet.ensures c.in-Never.is
+    so_never q refl (cut_whole (c.next_part-part.ensures a k x).stands (omega arith))
+    c.meet.result c.meet.new.ty c.meet.ensures c.in_err-end.was)
 
 pub loop-at-smaller : goal.loop-at-smaller
 loop-at-smaller c =
@@ -74,11 +61,9 @@ loop-at-preserved c = (
   c.next_part-part.auto.ty ∙ c.loop-at.invariant.1,
   λ l t w v.
       args_on (c.loop-at.invariant.2 l t w v) (search) (λ a k x. (c.next_part-part.ensures a k x).next) λ a k x q.
-      so_on q refl (cut_whole (c.next_part-part.ensures a k x).stands (omega arith)) c.meet.result c.meet.new.ty c.meet.ensures c.in-Of.is,
+      so_on q refl (cut_whole (c.next_part-part.ensures a k x).stands (omega arith))
+      c.meet.result c.meet.new.ty c.meet.ensures c.in_ok-end.was,
 )
-
-pub shape_of-ty : goal.shape_of-ty
-shape_of-ty c = c.loop-at.invariant.0
 
 pub returns : goal.returns
 returns c = λ l t w v. so_end (args_end (c.loop-at.invariant.2 l t w v) c.loop-at-test.false) refl

@@ -18,9 +18,6 @@ returns-then-args-eq0 c =
 pub first_type-first-requires-clause-some_arg : goal.first_type-first-requires-clause-some_arg
 first_type-first-requires-clause-some_arg c = row_some c.requires.some_row.values c.requires.some_row.row (omega (arith, c.if-args-eq0.false))
 
-pub first_type-first-requires-clause-ty_len : goal.first_type-first-requires-clause-ty_len
-first_type-first-requires-clause-ty_len c = c.requires.ty_len
-
 pub common_rest-requires : goal.common_rest-requires
 common_rest-requires c =
     let a = row_some c.requires.some_row.values c.requires.some_row.row (omega (arith, c.if-args-eq0.false)) in

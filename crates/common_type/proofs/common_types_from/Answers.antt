@@ -6,9 +6,6 @@ use Rattle.shape.proofs.TypeRows.{types_standing, types_short, types_ends, types
 use Rattle.common_type.proofs.SoFar.{so_on, so_never, so_end}
 use Rattle.common_type.proofs.common_types_from.Goals as goal
 
-pub loop-at-init : goal.loop-at-init
-loop-at-init c = (refl, λ l t w v. record { items = l; row = w; so = record { type = t; stands = v; same = refl } })
-
 pub end_of_type-e-requires : goal.end_of_type-e-requires
 end_of_type-e-requires c =
     types_standing
@@ -46,16 +43,11 @@ meet-requires c =
           (arith, w.size, (types_ends g c.loop-at-test.true c.end_of_type-e.ensures).stands.size, types_short g c.loop-at-test.true c.end_of_type-e.ensures, c.loop-at.invariant.0, c.requires.room);
     }
 
-pub shape_of-ty-in-Never : goal.shape_of-ty-in-Never
-shape_of-ty-in-Never c =
-    c.meet.auto.ty ∙
-    c.loop-at.invariant.0
-
-pub returns-in-Never : goal.returns-in-Never
-returns-in-Never c =
-    λ l t w v. types_next (c.loop-at.invariant.1 l t w v) (search) (search)
+pub returns-in_err-end : goal.returns-in_err-end
+returns-in_err-end c =
+    λ l t w v. rw c.from_residual.ensures (types_next (c.loop-at.invariant.1 l t w v) (search) (search)
     λ u k x q.
-    so_never q refl (cut_whole x (omega arith)) c.meet.result c.meet.new.ty c.meet.ensures c.in-Never.is
+    so_never q refl (cut_whole x (omega arith)) c.meet.result c.meet.new.ty c.meet.ensures c.in_err-end.was)
 
 pub loop-at-smaller : goal.loop-at-smaller
 loop-at-smaller c =
@@ -71,11 +63,8 @@ loop-at-preserved c = (
   c.meet.auto.ty ∙ c.loop-at.invariant.0,
   λ l t w v.
       types_on (c.loop-at.invariant.1 l t w v) (search) (search) λ u k x q.
-      so_on q refl (cut_whole x (omega arith)) c.meet.result c.meet.new.ty c.meet.ensures c.in-Of.is,
+      so_on q refl (cut_whole x (omega arith)) c.meet.result c.meet.new.ty c.meet.ensures c.in_ok-end.was,
 )
-
-pub shape_of-ty : goal.shape_of-ty
-shape_of-ty c = c.loop-at.invariant.0
 
 pub returns : goal.returns
 returns c = λ l t w v. so_end (types_end (c.loop-at.invariant.1 l t w v) c.loop-at-test.false) refl

@@ -1,6 +1,5 @@
 -- A literal's type is its mark and its kind.
 use native.Mathlib.Omega.{arith}
-use lib.ListN.{length-set}
 use Rattle.args.proofs.LiteralArgs.{literal_by}
 use Rattle.args.proofs.Firsts.{three_bytes}
 use Rattle.common_type.proofs.ScalarSoFar.{literal_first}
@@ -9,17 +8,8 @@ use Rattle.common_type.proofs.first_type.Goals as goal
 pub bounds-args-1 : goal.bounds-args-1
 bounds-args-1 c = omega (arith, three_bytes c.requires.some_arg.row)
 
-pub returns-then-args-ne115 : goal.returns-then-args-ne115
-returns-then-args-ne115 c = c.first_other.ensures
-
 pub bounds-args-2 : goal.bounds-args-2
 bounds-args-2 c = omega (arith, three_bytes c.requires.some_arg.row)
-
-pub bounds-ty-1 : goal.bounds-ty-1
-bounds-ty-1 c = simp length-set (omega arith)
-
-pub bounds-ty-2 : goal.bounds-ty-2
-bounds-ty-2 c = simp length-set (omega arith)
 
 pub returns : goal.returns
 returns c =

@@ -12,6 +12,3 @@ returns-then-ty-eq118 c = λ t e w. rw c.if-flat.true (part_vector w c.if-ty-eq1
 
 pub returns-else-ty-eq118 : goal.returns-else-ty-eq118
 returns-else-ty-eq118 c = λ t e w. rw c.if-flat.true (part_other w c.if-ty-eq118.false)
-
-pub returns-else-flat : goal.returns-else-flat
-returns-else-flat c = λ t e w. rw c.if-flat.false w

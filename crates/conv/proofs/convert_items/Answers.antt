@@ -1,12 +1,8 @@
 -- What writes the rest makes the whole.
-use mathlib.Core.Path.{refl, ◌∙◌}
+use mathlib.Core.Path.{◌∙◌}
 use native.Mathlib.Omega.{arith}
-use Rattle.conv.specs.Items.{conv_item}
-use Rattle.conv.proofs.Walk.{next_item, next_less, write_all, write_room, write_on, write_end}
+use Rattle.conv.proofs.Walk.{next_item, next_less, write_room, write_on, write_end}
 use Rattle.conv.proofs.convert_items.Goals as goal
-
-pub loop-i-init : goal.loop-i-init
-loop-i-init c = (refl, λ j l m n w g. write_all (conv_item j) c.args.out.now c.args.to w g)
 
 pub put_item-p-requires : goal.put_item-p-requires
 put_item-p-requires c =
@@ -36,9 +32,6 @@ loop-i-preserved c = (
       c.loop-i-test.true c.item_end-i.ensures
       (λ a b u q. c.put_item-p.ensures j a b n u q),
 )
-
-pub shape_of-out : goal.shape_of-out
-shape_of-out c = c.loop-i.invariant.0
 
 pub returns : goal.returns
 returns c = λ j l m n w g. write_end (c.loop-i.invariant.1 j l m n w g) c.loop-i-test.false

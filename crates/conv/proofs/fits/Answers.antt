@@ -1,12 +1,8 @@
 -- What is left to look at decides.
-use mathlib.Core.Path.{refl}
 use native.Mathlib.Omega.{arith}
 use Rattle.conv.proofs.Walk.{next_item, next_less}
 use Rattle.conv.proofs.ItemsLeft.{fit_no, fit_on, fit_end}
 use Rattle.conv.proofs.fits.Goals as goal
-
-pub loop-i-init : goal.loop-i-init
-loop-i-init c = λ l w. record { items = l; row = w; so = λ j n. refl }
 
 pub item_fits-requires : goal.item_fits-requires
 item_fits-requires c = next_item (c.loop-i.invariant c.requires.items c.requires.stands) c.loop-i-test.true

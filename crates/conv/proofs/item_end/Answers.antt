@@ -9,22 +9,11 @@ overflow_add-mark c = omega (arith, item_front c.requires.stands)
 pub bounds-src-i : goal.bounds-src-i
 bounds-src-i c = omega (arith, item_front c.requires.stands)
 
-pub overflow_add-i : goal.overflow_add-i
-overflow_add-i c = omega (arith, item_front c.requires.stands)
-
 pub bounds-src-i-then-mark-eq115 : goal.bounds-src-i-then-mark-eq115
 bounds-src-i-then-mark-eq115 c = omega (arith, item_front c.requires.stands)
 
-pub overflow_add-result : goal.overflow_add-result
-overflow_add-result c =
-    omega
-    (arith, item_within c.requires.stands, literal_end c.requires.stands c.if-mark-eq115.true c.literal_len.ensures)
-
 pub returns-then-mark-eq115 : goal.returns-then-mark-eq115
 returns-then-mark-eq115 c = λ a w. literal_end w c.if-mark-eq115.true c.literal_len.ensures
-
-pub overflow_add-result-then-mark-eq118 : goal.overflow_add-result-then-mark-eq118
-overflow_add-result-then-mark-eq118 c = omega (arith, item_front c.requires.stands)
 
 pub returns-then-mark-eq118 : goal.returns-then-mark-eq118
 returns-then-mark-eq118 c = λ a w. vector_end w c.if-mark-eq118.true

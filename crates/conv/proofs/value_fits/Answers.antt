@@ -8,12 +8,12 @@ use Rattle.conv.proofs.value_fits.Goals as goal
 pub fits-requires : goal.fits-requires
 fits-requires c =
     scan_items (kind_scan c.requires.to
-    c.leaf_at.ensures c.in-Kind.is).scan
+    c.leaf_at.ensures c.in-Some.is).scan
 
-pub returns-in-Kind : goal.returns-in-Kind
-returns-in-Kind c =
-    λ t v x. let y = kind_scan x c.leaf_at.ensures c.in-Kind.is in scan_fits
+pub returns : goal.returns
+returns c =
+    λ t v x. let y = kind_scan x c.leaf_at.ensures c.in-Some.is in scan_fits
     y.scan y.no c.fits.ensures ∙ some_map val_bytes _
 
-pub returns-in-Struct : goal.returns-in-Struct
-returns-in-Struct c = λ t v x. struct_fits x c.leaf_at.ensures c.in-Struct.is
+pub returns-in_default : goal.returns-in_default
+returns-in_default c = λ t v x. struct_fits x c.leaf_at.ensures c.in_default.is

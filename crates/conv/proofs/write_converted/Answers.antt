@@ -12,30 +12,22 @@ use Rattle.conv.proofs.write_converted.Goals as goal
 pub convert_items-requires : goal.convert_items-requires
 unfolding map_some
 convert_items-requires c =
-    let y = kind_scan c.requires.asked c.leaf_at.ensures c.in-Kind.is in
+    let y = kind_scan c.requires.asked c.leaf_at.ensures c.in-Some.is in
     scan_room y.scan y.no (ap (map_some val_bytes) c.requires.goes) c.requires.room
 
-pub copy-requires : goal.copy-requires
+pub put_bytes-requires : goal.put_bytes-requires
 unfolding map_some
-copy-requires c =
+put_bytes-requires c =
     let q = ap (λ (v : Val). length (val_bytes v)) (struct_into c.requires.asked c.leaf_at.ensures
-    c.in-Struct.is c.requires.goes) in
-    (omega (arith, c.requires.asked.has.bytes.size), c.requires.asked.has.bytes.within, omega (arith, c.requires.asked.has.bytes.size, c.requires.room))
+    c.in-None.is c.requires.goes) in
+    omega (arith, c.requires.asked.has.bytes.size, c.requires.asked.has.bytes.within, c.requires.room)
 
-pub shape_of-out-in-Kind : goal.shape_of-out-in-Kind
+pub returns-in-Some : goal.returns-in-Some
 unfolding map_some
-shape_of-out-in-Kind c = c.convert_items.auto.out
-
-pub returns-in-Kind : goal.returns-in-Kind
-unfolding map_some
-returns-in-Kind c =
-    λ t v w x g. let y = kind_scan x (search) c.in-Kind.is in
+returns-in-Some c =
+    λ t v w x g. let y = kind_scan x (search) c.in-Some.is in
     scan_put y.scan y.no (ap (map_some val_bytes) g) c.convert_items.ensures
 
-pub shape_of-out-in-Struct : goal.shape_of-out-in-Struct
+pub returns-in-None : goal.returns-in-None
 unfolding map_some
-shape_of-out-in-Struct c = c.copy.auto.out
-
-pub returns-in-Struct : goal.returns-in-Struct
-unfolding map_some
-returns-in-Struct c = λ t v w x g. struct_put x (search) c.in-Struct.is g c.copy.ensures
+returns-in-None c = λ t v w x g. struct_put x (search) c.in-None.is g c.put_bytes.ensures

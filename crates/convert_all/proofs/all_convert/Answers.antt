@@ -32,17 +32,17 @@ returns-then-t-at-eq115 c =
 
 pub slice_bounds-others_convert-count : goal.slice_bounds-others_convert-count
 slice_bounds-others_convert-count c =
-    let f = subst (Told (Ends _ _ _)) c.in-At.is
+    let f = subst (Told (Ends _ _ _)) c.in-Some.is
     c.type_end.ensures in omega (arith, f.stands.size)
 
 pub slice_bounds-others_convert-start : goal.slice_bounds-others_convert-start
 slice_bounds-others_convert-start c =
-    let f = subst (Told (Ends _ _ _)) c.in-At.is
+    let f = subst (Told (Ends _ _ _)) c.in-Some.is
     c.type_end.ensures in omega (arith, f.stands.size)
 
 pub slice_bounds-others_convert-end : goal.slice_bounds-others_convert-end
 slice_bounds-others_convert-end c =
-    let f = subst (Told (Ends _ _ _)) c.in-At.is
+    let f = subst (Told (Ends _ _ _)) c.in-Some.is
     c.type_end.ensures in f.stands.within
 
 pub others_convert-requires-clause-some_row : goal.others_convert-requires-clause-some_row
@@ -51,18 +51,18 @@ others_convert-requires-clause-some_row c =
 
 pub others_convert-requires-clause-one_type : goal.others_convert-requires-clause-one_type
 others_convert-requires-clause-one_type c =
-    let f = subst (Told (Ends _ _ _)) c.in-At.is (search) in
+    let f = subst (Told (Ends _ _ _)) c.in-Some.is c.type_end.ensures in
     record { type = _; stands = cut_to f c.requires.depth_bound f.stands }
 
 pub returns-then-not-others_convert : goal.returns-then-not-others_convert
 returns-then-not-others_convert c =
-    λ l t e w v. let f = subst (Told (Ends _ _ _)) c.in-At.is (search) in
-    none_all t l (sym (c.others_convert.ensures l t w (cut_to f (search) v))
+    λ l t e w v. let f = subst (Told (Ends _ _ _)) c.in-Some.is c.type_end.ensures in
+    none_all t l (sym (c.others_convert.ensures l t w (cut_to f c.requires.depth_bound v))
     ∙ c.if-not-others_convert.true)
 
 pub all_fit-requires : goal.all_fit-requires
 all_fit-requires c =
-    let f = subst (Told (Ends _ _ _)) c.in-At.is (search) in
+    let f = subst (Told (Ends _ _ _)) c.in-Some.is c.type_end.ensures in
     record {
       values = _;
       row = c.requires.asked.rest.row;
@@ -73,11 +73,11 @@ all_fit-requires c =
           ∙ c.others_convert.ensures _ _ c.requires.asked.rest.row (cut_to f c.requires.depth_bound c.requires.asked.to.stands)) tt;
     }
 
-pub returns-else-not-others_convert : goal.returns-else-not-others_convert
-returns-else-not-others_convert c = c.all_fit.ensures
+pub returns : goal.returns
+returns c = c.all_fit.ensures
 
-pub returns-in-Bad : goal.returns-in-Bad
-returns-in-Bad c =
+pub returns-in_default : goal.returns-in_default
+returns-in_default c =
     λ l t e w v. absurd
-    (subst (Told (Ends c.args.depth c.args.ty.now c.args.at)) c.in-Bad.is c.type_end.ensures _
+    (subst (Told (Ends c.args.depth c.args.ty.now c.args.at)) c.in_default.is c.type_end.ensures _
     record { type = t; stands = v })

@@ -28,12 +28,12 @@ returns-then-ty-at-eq115 c =
 pub fits-requires : goal.fits-requires
 fits-requires c =
     scan_items
-    (row_scan c.requires.row c.requires.stands c.requires.converts c.leaf_at.ensures c.in-Kind.is).scan
+    (row_scan c.requires.row c.requires.stands c.requires.converts c.leaf_at.ensures c.in-Some.is).scan
 
-pub returns-in-Kind : goal.returns-in-Kind
-returns-in-Kind c =
+pub returns : goal.returns
+returns c =
     λ l t e w v. let y = row_scan w v (asked_all (search) w v) c.leaf_at.ensures
-    c.in-Kind.is in scan_fits y.scan y.no c.fits.ensures ∙ some_map (joined val_bytes) _
+    c.in-Some.is in scan_fits y.scan y.no c.fits.ensures ∙ some_map (joined val_bytes) _
 
-pub returns-in-Struct : goal.returns-in-Struct
-returns-in-Struct c = λ l t e w v. row_fits w v (asked_all (search) w v) c.leaf_at.ensures c.in-Struct.is
+pub returns-in_default : goal.returns-in_default
+returns-in_default c = λ l t e w v. row_fits w v (asked_all (search) w v) c.leaf_at.ensures c.in_default.is

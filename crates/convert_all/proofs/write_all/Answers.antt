@@ -15,26 +15,26 @@ pub convert_items-requires : goal.convert_items-requires
 unfolding map_some
 convert_items-requires c =
     let y = row_scan c.requires.row c.requires.stands (some_to c.requires.type c.requires.values c.requires.goes) c.leaf_at.ensures
-    c.in-Kind.is in
+    c.in-Some.is in
     scan_room y.scan y.no (ap (map_some (joined val_bytes)) c.requires.goes) c.requires.room
 
-pub copy-requires : goal.copy-requires
+pub put_bytes-requires : goal.put_bytes-requires
 unfolding map_some
-copy-requires c =
+put_bytes-requires c =
     let b = row_bytes c.requires.row in
     let q = ap (λ (l : List Val). length (joined val_bytes l))
     (row_into c.requires.row c.requires.stands (some_to c.requires.type c.requires.values c.requires.goes) c.leaf_at.ensures
-    c.in-Struct.is c.requires.goes) in
-    (omega (arith, b.size), b.within, omega (arith, b.size, c.requires.room))
+    c.in-None.is c.requires.goes) in
+    omega (arith, b.size, b.within, c.requires.room)
 
-pub returns-in-Kind : goal.returns-in-Kind
+pub returns-in-Some : goal.returns-in-Some
 unfolding map_some
-returns-in-Kind c =
-    λ l t e ws w v g. let y = row_scan w v (some_to t l g) (search) c.in-Kind.is in
+returns-in-Some c =
+    λ l t e ws w v g. let y = row_scan w v (some_to t l g) (search) c.in-Some.is in
     scan_put y.scan y.no (ap (map_some (joined val_bytes)) g) c.convert_items.ensures
 
-pub returns-in-Struct : goal.returns-in-Struct
+pub returns-in-None : goal.returns-in-None
 unfolding map_some
-returns-in-Struct c =
-    λ l t e ws w v g. row_put w v (some_to t l g) (search) c.in-Struct.is g
-    c.copy.ensures
+returns-in-None c =
+    λ l t e ws w v g. row_put w v (some_to t l g) (search) c.in-None.is g
+    c.put_bytes.ensures

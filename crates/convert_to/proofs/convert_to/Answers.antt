@@ -1,61 +1,50 @@
 -- What `read_target` says is what `read_target` gives, and the answer follows from it.
-use mathlib.Core.Path.{refl, sym, ◌∙◌}
+use mathlib.Core.Path.{◌≡◌, refl, subst}
+use Rattle.meaning.specs.Trees as trees
+use Rattle.meaning.specs.Answers.{no}
 use Rattle.meaning.specs.Entries.{type_target}
-use Rattle.ty.proofs.Targets.{meant}
+use Rattle.ty.specs.Targets.{Meant}
+use Rattle.ty.proofs.Targets.{meant, shape_only, bad_target}
+use Rattle.error.proofs.Refusals.{passed_on, missing, present}
 use Rattle.error.proofs.BufferAtExit.{refused}
 use Rattle.error.proofs.Told.{told_as}
 use Rattle.convert_to.proofs.ConversionAnswers.{of_answer, tr_answer, no_answer}
 use Rattle.convert_to.proofs.convert_to.Goals as goal
+use Rattle.convert_to.proofs.convert_to.Goals.{In_ok-found}
+
+found : (c : In_ok-found) → Meant c.args.target.now c.in_ok-found.found
+found c =
+    meant _ (λ i. (c.type_inv.target i).fits) c.read_target.ensures (present _ _ c.ok_or.ensures.value c.in_ok-found.was)
+
+pub returns-in_err-found : goal.returns-in_err-found
+returns-in_err-found c =
+    let m = missing _ _ c.ok_or.ensures.value c.in_err-found.was in
+    rw (passed_on c.from_residual.result c.from_residual.ensures.1, m.1)
+    (refused _ _ (no_answer _ _ _ (bad_target _ c.read_target.ensures m.0) refl))
 
 pub convert_to_type-requires : goal.convert_to_type-requires
-unfolding type_target
 convert_to_type-requires c =
-    let m = meant _ (λ i. (c.shared_slice_known-1.given i).fits)
-    (sym c.in-Type.is ∙ c.read_target.ensures) in
+    let m = subst (Meant _) c.in-Type.is (found (goal.at.convert_to_type-requires c).In_ok-found) in
     record { type = m.type; stands = m.stands }
 
 pub convert_to_runtime-requires : goal.convert_to_runtime-requires
-unfolding type_target
 convert_to_runtime-requires c =
-    meant _ (λ i. (c.shared_slice_known-1.given i).fits)
-    (sym c.in-Runtime.is ∙ c.read_target.ensures)
+    subst (Meant _) c.in-Runtime.is (found (goal.at.convert_to_runtime-requires c).In_ok-found)
 
 pub returns-in-Type : goal.returns-in-Type
-unfolding type_target
 returns-in-Type c =
-    let m = meant _ (λ i. (c.shared_slice_known-1.given
-    i).fits) (sym c.in-Type.is
-    ∙ c.read_target.ensures) in told_as (of_answer _ _ _ m.reads)
-    (c.convert_to_type.ensures m.type m.stands)
+    let m = subst (Meant _) c.in-Type.is (found (goal.at.returns-in-Type c).In_ok-found) in
+    told_as (of_answer _ _ _ m.reads) (c.convert_to_type.ensures m.type m.stands)
 
 pub returns-in-Runtime : goal.returns-in-Runtime
-unfolding type_target
 returns-in-Runtime c =
-    let m = meant _ (λ i. (c.shared_slice_known-1.given
-    i).fits) (sym c.in-Runtime.is
-    ∙ c.read_target.ensures) in told_as (tr_answer _ _ _ m.reads)
-    (c.convert_to_runtime.ensures m.type m.stands m.good)
+    let m = subst (Meant _) c.in-Runtime.is (found (goal.at.returns-in-Runtime c).In_ok-found) in
+    told_as (tr_answer _ _ _ m.reads) (c.convert_to_runtime.ensures m.type m.stands m.good)
 
-pub returns-in-Array : goal.returns-in-Array
+pub returns-in_default : goal.returns-in_default
 unfolding type_target
-returns-in-Array c =
-    refused 1 _ (no_answer _ _ _ (meant _ (λ i. (c.shared_slice_known-1.given i).fits)
-    (sym c.in-Array.is ∙ c.read_target.ensures)) refl)
-
-pub returns-in-Vector : goal.returns-in-Vector
-unfolding type_target
-returns-in-Vector c =
-    refused 1 _ (no_answer _ _ _ (meant _ (λ i. (c.shared_slice_known-1.given i).fits)
-    (sym c.in-Vector.is ∙ c.read_target.ensures)).0 refl)
-
-pub returns-in-Matrix : goal.returns-in-Matrix
-unfolding type_target
-returns-in-Matrix c =
-    refused 1 _ (no_answer _ _ _ (meant _ (λ i. (c.shared_slice_known-1.given i).fits)
-    (sym c.in-Matrix.is ∙ c.read_target.ensures)).0 refl)
-
-pub returns-in-Bad : goal.returns-in-Bad
-unfolding type_target
-returns-in-Bad c =
-    refused 1 _ (no_answer _ _ _ (meant _ (λ i. (c.shared_slice_known-1.given i).fits)
-    (sym c.in-Bad.is ∙ c.read_target.ensures)) refl)
+returns-in_default c =
+    let x = shape_only _ c.in_default.not-Type c.in_default.not-Runtime
+    (found (goal.at.returns-in_default c).In_ok-found)
+    (λ (g : trees.Target). type_target g ≡ no 1) refl (λ n. refl) (λ a b. refl) in
+    refused _ _ (no_answer _ _ _ x.1 x.2)

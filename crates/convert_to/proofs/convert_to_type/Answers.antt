@@ -1,49 +1,21 @@
 -- The one argument, or 2.
-use mathlib.Core.Path.{sym, subst}
-use lib.Seq.{length-take-le}
 use Rattle.meaning.specs.Trees.{Of}
-use Rattle.args.specs.OneValue.{Singles}
-use Rattle.args.specs.declared.Single.{Single}
+use Rattle.ty.proofs.FrontOfBuffer.{front_whole}
+use Rattle.error.proofs.Refusals.{passed_on, missing, present}
 use Rattle.error.proofs.BufferAtExit.{refused}
 use Rattle.error.proofs.Told.{told_as}
-use Rattle.ty.proofs.FrontOfBuffer.{front_whole}
 use Rattle.convert_to.proofs.OneValue.{none_read}
 use Rattle.convert_to.proofs.ToType.{type_read}
 use Rattle.convert_to.proofs.convert_to_type.Goals as goal
 
-pub slice_bounds-buf-end : goal.slice_bounds-buf-end
-slice_bounds-buf-end c =
-    (subst (λ (r : Single). Singles c.args.args.now r
-    c.one_value.new.ty) c.in-Of.is
-    c.one_value.ensures).stands.within
+pub returns-in_err-q : goal.returns-in_err-q
+returns-in_err-q c =
+    let m = missing _ _ c.ok_or.ensures.value c.in_err-q.was in
+    rw (passed_on c.from_residual.result c.from_residual.ensures.1, m.1)
+    (λ t w. refused _ _ (none_read (Of t) _ (λ i. (c.type_inv.args i).fits) (rw m.0 at c.one_value.ensures)))
 
-pub slice_bounds-convert_value-end : goal.slice_bounds-convert_value-end
-slice_bounds-convert_value-end c =
-    sym (length-take-le _ _ (subst (λ (r : Single). Singles
-    c.args.args.now r
-    c.one_value.new.ty) c.in-Of.is
-    c.one_value.ensures).stands.within)
-
-pub convert_value-requires : goal.convert_value-requires
-convert_value-requires c =
-    let f = subst (λ (r : Single). Singles
-    c.args.args.now r
-    c.one_value.new.ty) c.in-Of.is
-    c.one_value.ensures in
-    record { to = c.requires.type; from = f.value; asked = record { whole = search; value = f.one; type = front_whole f.stands } }
-
-pub returns-in-Of : goal.returns-in-Of
-returns-in-Of c =
-    λ t w. let f = subst (λ (r : Single). Singles
-    c.args.args.now r
-    c.one_value.new.ty)
-    c.in-Of.is
-    c.one_value.ensures in
+pub returns : goal.returns
+returns c =
+    λ t w. let f = rw (present _ _ c.ok_or.ensures.value c.in_ok-q.was) at c.one_value.ensures in
     told_as (type_read t _ f.one) (c.convert_value.ensures t f.value
     record { whole = w; value = f.one; type = front_whole f.stands })
-
-pub returns-in-Bad : goal.returns-in-Bad
-returns-in-Bad c =
-    λ t w. let f = subst (λ (r : Single). Singles c.args.args.now r
-    c.one_value.new.ty) c.in-Bad.is c.one_value.ensures in
-    refused 2 _ (none_read (Of t) _ (λ i. (c.shared_slice_known-2-1.given i).fits) f)

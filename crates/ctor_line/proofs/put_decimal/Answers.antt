@@ -1,6 +1,5 @@
 -- What writes the rest makes the whole.
 use native.Mathlib.Omega.{arith}
-use Rattle.record.proofs.Left.{left_same}
 use Rattle.ctor_line.proofs.Digits.{decimal_short, digits_all, digit_room, digit_on, digits_end}
 use Rattle.ctor_line.proofs.put_decimal.Goals as goal
 
@@ -10,21 +9,8 @@ loop-p-init c = (decimal_short c.top_power-p.ensures (omega arith), digits_all _
 pub bounds-out-i : goal.bounds-out-i
 bounds-out-i c = omega (arith, digit_room c.loop-p.invariant.1 c.loop-p-test.true (omega arith))
 
-pub overflow_add-i : goal.overflow_add-i
-overflow_add-i c = omega (arith, digit_room c.loop-p.invariant.1 c.loop-p-test.true (omega arith))
-
 pub loop-p-preserved : goal.loop-p-preserved
 loop-p-preserved c = (c.loop-p.invariant.0, rw c.digit.ensures (digit_on c.loop-p.invariant.1 c.loop-p-test.true))
 
-pub shape_of-out : goal.shape_of-out
-shape_of-out c = left_same c.loop-p.invariant.1.rest
-
 pub returns-clause-put : goal.returns-clause-put
-returns-clause-put c =
-    let z = digits_end c.loop-p.invariant.1 c.loop-p-test.false in
-    z
-
-pub returns-clause-upper_bound : goal.returns-clause-upper_bound
-returns-clause-upper_bound c =
-    let z = digits_end c.loop-p.invariant.1 c.loop-p-test.false in
-    omega (arith, z.end, c.loop-p.invariant.0)
+returns-clause-put c = digits_end c.loop-p.invariant.1 c.loop-p-test.false

@@ -1,12 +1,8 @@
 -- What writes the rest makes the whole.
-use Prim.Native.Nat.{◌-◌, ◌≤◌}
-use lib.ListN.{length, drop}
+use lib.ListN.{drop}
 use Rattle.meaning.specs.Entries.{hex}
 use Rattle.record.proofs.Left.{Left}
 use Rattle.ctor_line.proofs.put_hex.Given as goal
 
-abbrev pub invariant-loop-i : goal.invariant-loop-i
-invariant-loop-i l = (l.i ≤ length l.bytes) × Left l.initial.out l.to (hex l.bytes) l.out l.p (hex (drop l.i l.bytes))
-
-abbrev pub decreases-loop-i : goal.decreases-loop-i
-decreases-loop-i l = length l.bytes - l.i
+abbrev pub invariant-loop-byte : goal.invariant-loop-byte
+invariant-loop-byte l = Left l.initial.out l.to (hex l.bytes) l.out l.p (hex (drop l.byte-index l.bytes))

@@ -1,8 +1,10 @@
 -- A line for each kind of answer.
 use mathlib.Core.Path.{sym}
-use native.Mathlib.Omega.{arith}
-use lib.ListN.{length-take}
-use Rattle.error.specs.Told.{paper}
+use Prim.Native.Nat.{ℕ}
+use lib.ListN.{take}
+use Rattle.meaning.specs.Answers.{ok}
+use Rattle.error.proofs.Refusals.{no_more}
+use Rattle.error.specs.Refusals.{paper}
 use Rattle.ctor_line.specs.Printed.{answer_in}
 use Rattle.ctor_line.proofs.Lines.{record_bytes}
 use Rattle.ctor_line.proofs.put_line.Goals as goal
@@ -10,31 +12,12 @@ use Rattle.ctor_line.proofs.put_line.Goals as goal
 pub slice_bounds-put_ok-end : goal.slice_bounds-put_ok-end
 slice_bounds-put_ok-end c =
     sym
-    (record_bytes c.args.buffer.now c.in-Record.is c.requires.within)
+    (record_bytes c.args.buffer.now c.in-Ok.is c.requires.within)
 
-pub put_ok-requires : goal.put_ok-requires
-put_ok-requires c = simp length-take (omega arith)
-
-pub returns-in-Record-clause-put : goal.returns-in-Record-clause-put
+pub returns-in-Ok-clause-put : goal.returns-in-Ok-clause-put
 unfolding answer_in paper
-returns-in-Record-clause-put c = rw c.in-Record.is c.put_ok.ensures.put
+returns-in-Ok-clause-put c = rw c.in-Ok.is c.put_ok.ensures.put
 
-pub returns-in-Record-clause-upper_bound : goal.returns-in-Record-clause-upper_bound
+pub returns-in-Err-clause-put : goal.returns-in-Err-clause-put
 unfolding answer_in paper
-returns-in-Record-clause-upper_bound c = c.put_ok.ensures.upper_bound
-
-pub returns-in-Refused-clause-put : goal.returns-in-Refused-clause-put
-unfolding answer_in paper
-returns-in-Refused-clause-put c = rw c.in-Refused.is c.put_no.ensures.put
-
-pub returns-in-Refused-clause-upper_bound : goal.returns-in-Refused-clause-upper_bound
-unfolding answer_in paper
-returns-in-Refused-clause-upper_bound c = c.put_no.ensures.upper_bound
-
-pub returns-in-Miscount-clause-put : goal.returns-in-Miscount-clause-put
-unfolding answer_in paper
-returns-in-Miscount-clause-put c = rw c.in-Miscount.is c.put_miscount.ensures.put
-
-pub returns-in-Miscount-clause-upper_bound : goal.returns-in-Miscount-clause-upper_bound
-unfolding answer_in paper
-returns-in-Miscount-clause-upper_bound c = c.put_miscount.ensures.upper_bound
+returns-in-Err-clause-put c = rw (c.in-Err.is, no_more (λ (n : ℕ). ok (take n c.args.buffer.now)) c.in-Err.refusal) c.put_refusal.ensures.put

@@ -1,5 +1,4 @@
 -- The two parts.
-use native.Mathlib.Omega.{arith}
 use Rattle.meaning.specs.Entries.{line}
 use Rattle.record.proofs.Puts.{put_put}
 use Rattle.ctor_line.proofs.put_no.Goals as goal
@@ -7,7 +6,3 @@ use Rattle.ctor_line.proofs.put_no.Goals as goal
 pub returns-clause-put : goal.returns-clause-put
 unfolding line
 returns-clause-put c = put_put c.put_word-p.ensures c.put_number.ensures.put
-
-pub returns-clause-upper_bound : goal.returns-clause-upper_bound
-unfolding line
-returns-clause-upper_bound c = omega (arith, c.put_word-p.ensures.end, c.put_number.ensures.upper_bound)

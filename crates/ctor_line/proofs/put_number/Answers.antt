@@ -1,10 +1,6 @@
 -- The digits, and the byte after them.
-use native.Mathlib.Omega.{arith}
 use Rattle.record.proofs.Puts.{put_put}
 use Rattle.ctor_line.proofs.put_number.Goals as goal
 
 pub returns-clause-put : goal.returns-clause-put
 returns-clause-put c = put_put c.put_decimal-p.ensures.put c.put_byte.ensures
-
-pub returns-clause-upper_bound : goal.returns-clause-upper_bound
-returns-clause-upper_bound c = omega (arith, c.put_decimal-p.ensures.upper_bound, c.put_byte.ensures.end)

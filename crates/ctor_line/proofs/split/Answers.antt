@@ -1,9 +1,9 @@
 -- The tests of the definition.
 use mathlib.Core.Path.{ap, ◌∙◌}
 use native.Mathlib.Omega.{arith}
-use Rattle.ctor_line.specs.declared.Input.TheVariants.{Call}
 use Rattle.ctor_line.proofs.Splits.{split_short, split_long, split_call}
 use Rattle.ctor_line.proofs.split.Goals as goal
+use Rattle.std.specs.declared.option.Option.TheVariants.{Some}
 
 pub returns-then-input-lt3 : goal.returns-then-input-lt3
 returns-then-input-lt3 c = split_short c.args.input.now (omega (arith, c.if-input-lt3.true))
@@ -15,4 +15,4 @@ pub returns-then-input-gt65536 : goal.returns-then-input-gt65536
 returns-then-input-gt65536 c = split_long _ c.if-input-gt65536.true
 
 pub returns : goal.returns
-returns c = ap Call (omega arith) ∙ split_call _ (omega arith) c.if-input-gt65536.false
+returns c = ap Some (omega arith) ∙ split_call _ (omega arith) c.if-input-gt65536.false

@@ -5,10 +5,7 @@ use Rattle.derive.proofs.scalar_front.Goals as goal
 
 pub returns-then-not-is_kind : goal.returns-then-not-is_kind
 returns-then-not-is_kind c =
-    λ t e w. unknown c.is_kind.ensures c.if-not-is_kind.true
-    (scalar_known c.args.depth c.args.s.now c.args.at c.requires t e w)
+    λ t e w. unknown c.is_kind.ensures c.if-not-is_kind.true (scalar_known c.args.depth c.args.s.now c.args.at c.requires t e w)
 
 pub returns : goal.returns
-returns c =
-    scalar_fronted c.args.depth c.args.s.now c.args.at
-    c.requires (known c.is_kind.ensures c.if-not-is_kind.false)
+returns c = scalar_fronted c.args.depth c.args.s.now c.args.at c.requires (known c.is_kind.ensures c.if-not-is_kind.false)

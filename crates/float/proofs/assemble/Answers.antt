@@ -1,61 +1,32 @@
 -- `float::assemble` meets its contract. Each arm is the case of `bits` for its number.
 use Prim.Native.Nat.{◌*◌, ◌^◌}
 use Rattle.meaning.specs.Floats.{nan, inf, fin}
-use Rattle.float.proofs.Fields.{fits, bounded, nan_bits_lem, inf_bits, fin_bits}
+use Rattle.float.proofs.Fields.{fits, bits_lt, nan_bits_lem, inf_bits, fin_bits}
 use Rattle.float.proofs.assemble.Goals as goal
 
 pub overflow_add-result : goal.overflow_add-result
-overflow_add-result c = record { fits = fits c.args.p c.args.emax c.requires.format nan (nan_bits_lem c.args.p c.args.emax c.infinity.ensures c.placed.ensures) }
+overflow_add-result g c = record { fits = fits g.F.Format.laws nan (nan_bits_lem _ _ c.infinity.ensures c.placed.ensures) }
 
 pub overflow_add-result-in-Inf : goal.overflow_add-result-in-Inf
-overflow_add-result-in-Inf c =
-    record {
-      fits = fits c.args.p c.args.emax c.requires.format (inf c.in-Inf.s)
-          (inf_bits c.args.p c.args.emax c.in-Inf.s c.sign.ensures c.infinity-in-Inf.ensures);
-    }
-
-pub pack-requires-clause-format : goal.pack-requires-clause-format
-pack-requires-clause-format c = c.requires.format
-
-pub pack-requires-clause-e_bound : goal.pack-requires-clause-e_bound
-pack-requires-clause-e_bound c = rw c.in-Fin.is at c.requires.v_bound
+overflow_add-result-in-Inf g c =
+    record { fits = fits g.F.Format.laws (inf c.in-Inf.s) (inf_bits _ _ c.in-Inf.s c.sign.ensures c.infinity-in-Inf.ensures) }
 
 pub overflow_add-result-in-Fin : goal.overflow_add-result-in-Fin
-overflow_add-result-in-Fin c =
+overflow_add-result-in-Fin g c =
     let n = c.in-Fin.m * 2 ^ c.in-Fin.e in
-    record {
-      fits = fits c.args.p c.args.emax c.requires.format (fin c.in-Fin.s n)
-          (fin_bits c.args.p c.args.emax c.in-Fin.s n c.sign-in-Fin.ensures c.pack.ensures);
-    }
+    record { fits = fits g.F.Format.laws (fin c.in-Fin.s n) (fin_bits _ _ c.in-Fin.s n c.sign-in-Fin.ensures c.pack.ensures) }
 
 pub returns-in-Nan-clause-value : goal.returns-in-Nan-clause-value
-returns-in-Nan-clause-value c =
-    rw c.in-Nan.is (bounded c.args.p c.args.emax c.requires.format nan
-    (nan_bits_lem c.args.p c.args.emax c.infinity.ensures c.placed.ensures)).0
-
-pub returns-in-Nan-clause-upper_bound : goal.returns-in-Nan-clause-upper_bound
-returns-in-Nan-clause-upper_bound c =
-    (bounded c.args.p c.args.emax c.requires.format nan
-    (nan_bits_lem c.args.p c.args.emax c.infinity.ensures c.placed.ensures)).1
+returns-in-Nan-clause-value g c = rw c.in-Nan.is (nan_bits_lem _ _ c.infinity.ensures c.placed.ensures)
 
 pub returns-in-Inf-clause-value : goal.returns-in-Inf-clause-value
-returns-in-Inf-clause-value c =
-    rw c.in-Inf.is (bounded c.args.p c.args.emax c.requires.format (inf c.in-Inf.s)
-    (inf_bits c.args.p c.args.emax c.in-Inf.s c.sign.ensures c.infinity-in-Inf.ensures)).0
-
-pub returns-in-Inf-clause-upper_bound : goal.returns-in-Inf-clause-upper_bound
-returns-in-Inf-clause-upper_bound c =
-    (bounded c.args.p c.args.emax c.requires.format (inf c.in-Inf.s)
-    (inf_bits c.args.p c.args.emax c.in-Inf.s c.sign.ensures c.infinity-in-Inf.ensures)).1
+returns-in-Inf-clause-value g c = rw c.in-Inf.is (inf_bits _ _ c.in-Inf.s c.sign.ensures c.infinity-in-Inf.ensures)
 
 pub returns-in-Fin-clause-value : goal.returns-in-Fin-clause-value
-returns-in-Fin-clause-value c =
-    let n = c.in-Fin.m * 2 ^ c.in-Fin.e in
-    rw c.in-Fin.is (bounded c.args.p c.args.emax c.requires.format (fin c.in-Fin.s n) (fin_bits c.args.p c.args.emax c.in-Fin.s n c.sign-in-Fin.ensures
-    c.pack.ensures)).0
+returns-in-Fin-clause-value g c =
+    rw c.in-Fin.is (fin_bits _ _ c.in-Fin.s (c.in-Fin.m * 2 ^ c.in-Fin.e) c.sign-in-Fin.ensures c.pack.ensures)
 
 pub returns-in-Fin-clause-upper_bound : goal.returns-in-Fin-clause-upper_bound
-returns-in-Fin-clause-upper_bound c =
+returns-in-Fin-clause-upper_bound g c =
     let n = c.in-Fin.m * 2 ^ c.in-Fin.e in
-    (bounded c.args.p c.args.emax c.requires.format (fin c.in-Fin.s n) (fin_bits c.args.p c.args.emax c.in-Fin.s n c.sign-in-Fin.ensures
-    c.pack.ensures)).1
+    rw (fin_bits _ _ c.in-Fin.s n c.sign-in-Fin.ensures c.pack.ensures) (bits_lt g.F.Format.laws (fin c.in-Fin.s n))

@@ -2,11 +2,8 @@
 -- the side where it loses nothing that the test needs.
 use Prim.Native.Nat.{◌-◌}
 use native.Mathlib.Omega.{arith}
-use Rattle.float.proofs.Ranges.{far_up, zero_inside, beyond_far, beyond_up, beyond_near, beyond_down}
+use Rattle.float.proofs.Ranges.{far_up, beyond_far, beyond_up, beyond_near, beyond_down}
 use Rattle.float.proofs.beyond.Goals as goal
-
-pub returns-then-m-eq0 : goal.returns-then-m-eq0
-returns-then-m-eq0 c = zero_inside c.args.m c.args.e c.args.limit c.args.d c.if-m-eq0.true
 
 pub returns-then-up-gt63 : goal.returns-then-up-gt63
 returns-then-up-gt63 c =

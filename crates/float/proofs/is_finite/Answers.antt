@@ -3,4 +3,4 @@ use Rattle.float.proofs.Fields.{finite_is}
 use Rattle.float.proofs.is_finite.Goals as goal
 
 pub returns : goal.returns
-returns c = finite_is c.args.p c.args.emax c.args.w c.args.b c.requires c.field.ensures
+returns g c = finite_is g.met.F.Pattern.laws c.args.b c.field.ensures c.largest_field.ensures

@@ -1,11 +1,7 @@
--- `float::low` meets its contract. A mask of k ones keeps the k low bits.
-use native.Mathlib.Omega.{arith}
-use lib.Pow.{pow_pos}
-use Rattle.float.proofs.Rounds.{masked}
+-- `float::low_bits` meets its contract. A mask of k ones keeps the k low bits.
+use Rattle.std.proofs.lemmas.Nat.{one_shl}
+use lib.Bits.{and_mask}
 use Rattle.float.proofs.low_bits.Goals as goal
 
-pub overflow_sub-result : goal.overflow_sub-result
-overflow_sub-result c = omega (arith, pow_pos c.args.k)
-
 pub returns : goal.returns
-returns c = masked c.args.x c.args.k c.power.ensures
+returns c = rw (one_shl c.args.k 64 c.requires) (and_mask c.args.x c.args.k)

@@ -5,9 +5,6 @@ use Rattle.laws.proofs.Digits.{closest_shr}
 use Rattle.float.proofs.Rounds.{shifted_up}
 use Rattle.float.proofs.scaled.Goals as goal
 
-pub overflow_shl-result : goal.overflow_shl-result
-overflow_shl-result c = (c.requires c.if-d-e.true).0
-
 pub returns-then-d-e : goal.returns-then-d-e
 returns-then-d-e c = shifted_up c.args.m c.args.e c.args.d c.if-d-e.true (c.requires c.if-d-e.true).1
 

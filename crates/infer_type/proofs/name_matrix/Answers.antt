@@ -7,9 +7,6 @@ use Rattle.infer_type.proofs.name_matrix.Goals as goal
 pub returns-then-n-eq0 : goal.returns-then-n-eq0
 returns-then-n-eq0 c = λ l g. qm_none c.args.c c.args.r (given_none g c.if-n-eq0.true)
 
-pub name_matrix_one-requires : goal.name_matrix_one-requires
-name_matrix_one-requires c = record { types = _; given = given_alone c.requires.given c.if-n-eq1.true }
-
 pub returns-then-n-eq1 : goal.returns-then-n-eq1
 returns-then-n-eq1 c =
     λ l g. let x = given_one g c.if-n-eq1.true in

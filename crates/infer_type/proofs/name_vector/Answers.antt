@@ -1,6 +1,6 @@
 -- By how many arguments there are.
 use Rattle.meaning.specs.Trees.{Tv}
-use Rattle.arg_types.proofs.Given.{given_none, given_one, given_more, two_least}
+use Rattle.arg_types.proofs.Given.{given_none, given_one, given_more}
 use Rattle.infer_type.proofs.Shapes.{names_as, qv_none, qv_one_lem, qv_more}
 use Rattle.infer_type.proofs.name_vector.Goals as goal
 
@@ -15,12 +15,6 @@ returns-then-count-eq1 c =
     λ l g. let x = given_one g c.if-count-eq1.true in
     names_as (Tv c.args.n) c.name_vector_one.result
     (qv_one_lem c.args.n x.is) (c.name_vector_one.ensures x.type x.whole)
-
-pub name_vector_parts-requires-clause-some_given : goal.name_vector_parts-requires-clause-some_given
-name_vector_parts-requires-clause-some_given c = c.requires
-
-pub name_vector_parts-requires-clause-several : goal.name_vector_parts-requires-clause-several
-name_vector_parts-requires-clause-several c = two_least c.if-count-eq0.false c.if-count-eq1.false
 
 pub returns : goal.returns
 returns c =

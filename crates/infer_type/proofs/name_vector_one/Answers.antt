@@ -1,10 +1,10 @@
 -- By the front of the one type.
-use mathlib.Core.Path.{sym, ◌∙◌}
-use Rattle.infer_type.proofs.Shapes.{one_scalar, one_vector, one_other, one_matrix, one_array, one_struct}
+use mathlib.Core.Path.{◌≡◌, refl, sym, ◌∙◌}
+use Rattle.meaning.specs.Answers.{no}
+use Rattle.meaning.specs.Typing.{type_qv_one}
+use Rattle.arg_types.proofs.Fronts.{neither}
+use Rattle.infer_type.proofs.Shapes.{one_scalar, one_vector, one_other}
 use Rattle.infer_type.proofs.name_vector_one.Goals as goal
-
-pub head_at-requires : goal.head_at-requires
-head_at-requires c = record { type = _; end = _; stands = c.requires.stands }
 
 pub returns-then-m-n : goal.returns-then-m-n
 returns-then-m-n c =
@@ -21,17 +21,8 @@ returns-else-m-n c =
     λ a w. one_other w _ (sym c.in-Vector.is ∙ c.head_at.ensures a _ w)
     c.if-m-n.false
 
-pub returns-in-Matrix : goal.returns-in-Matrix
-returns-in-Matrix c =
-    λ a w. one_matrix w c.args.n
-    (sym c.in-Matrix.is ∙ c.head_at.ensures a _ w)
-
-pub returns-in-Array : goal.returns-in-Array
-returns-in-Array c =
-    λ a w. one_array w c.args.n
-    (sym c.in-Array.is ∙ c.head_at.ensures a _ w)
-
-pub returns-in-Struct : goal.returns-in-Struct
-returns-in-Struct c =
-    λ a w. one_struct w c.args.n
-    (sym c.in-Struct.is ∙ c.head_at.ensures a _ w)
+pub returns-in_default : goal.returns-in_default
+unfolding type_qv_one
+returns-in_default c =
+    λ a w. neither a (c.head_at.ensures a _ w) c.in_default.not-Scalar c.in_default.not-Vector
+    (λ u. type_qv_one c.args.n u ≡ no 12) (λ p q k. refl) (λ n u. refl) (λ i m. refl)

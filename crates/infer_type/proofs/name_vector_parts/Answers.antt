@@ -2,19 +2,13 @@
 use mathlib.Core.Path.{sym, ap, ◌∙◌}
 use Rattle.meaning.specs.Answers.{miscount}
 use Rattle.arg_types.proofs.Given.{given_two}
-use Rattle.infer_type.proofs.Shapes.{kinds_of, qv_not, qv_miscount, qv_found, qv_nothing}
+use Rattle.infer_type.proofs.Shapes.{kinds_of, qv_not, qv_miscount, qv_named}
 use Rattle.infer_type.proofs.name_vector_parts.Goals as goal
-
-pub are_parts-requires : goal.are_parts-requires
-are_parts-requires c = record { types = _; row = c.requires.some_given.given.row }
 
 pub returns-then-not-are_parts : goal.returns-then-not-are_parts
 returns-then-not-are_parts c =
     λ l g. qv_not c.args.n l (c.are_parts.ensures l g.row)
     (c.if-not-are_parts.true)
-
-pub total-sum-requires : goal.total-sum-requires
-total-sum-requires c = record { types = _; row = c.requires.some_given.given.row }
 
 pub returns-then-sum-n : goal.returns-then-sum-n
 returns-then-sum-n c =
@@ -32,18 +26,10 @@ common_kind-requires c =
     (c.if-not-are_parts.false) in
     record { types = _; first = _; others = _; kinds = x.kinds }
 
-pub returns-in-Kind : goal.returns-in-Kind
-returns-in-Kind c =
-    λ l g. let x = kinds_of g.row (given_two g (search)) (c.are_parts.ensures l
-    g.row) (c.if-not-are_parts.false) in
-    qv_found c.args.n l x.kinds
-    (sym (c.total-sum.ensures l g.row) ∙ c.if-sum-n.false)
-    (c.common_kind.ensures l _ _ x.kinds) c.in-Kind.is
-
-pub returns-in-Nothing : goal.returns-in-Nothing
-returns-in-Nothing c =
-    λ l g. let x = kinds_of g.row (given_two g (search)) (c.are_parts.ensures l g.row)
+pub returns : goal.returns
+returns c =
+    λ l g. let x = kinds_of g.row (given_two g c.requires.several) (c.are_parts.ensures l g.row)
     (c.if-not-are_parts.false) in
-    qv_nothing c.args.n l x.kinds
-    (sym (c.total-sum.ensures l g.row) ∙ c.if-sum-n.false)
-    (c.common_kind.ensures l _ _ x.kinds) c.in-Nothing.is
+    rw c.ok_or.ensures.value
+    (qv_named c.args.n l x.kinds (sym (c.total-sum.ensures l g.row) ∙ c.if-sum-n.false)
+    (c.common_kind.ensures l _ _ x.kinds))

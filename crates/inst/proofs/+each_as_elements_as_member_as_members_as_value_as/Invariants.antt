@@ -2,7 +2,7 @@
 -- calls `member_as`, and these two call `value_as`, each at its own depth d: 4d for `value_as`, 4d + 1 for `member_as`,
 -- 4d + 2 for the loops, 4d + 3 for `elements_as`.
 use mathlib.Core.Path.{◌≡◌}
-use Prim.Native.Nat.{ℕ, ◌+◌, ◌*◌, ◌≤◌}
+use Prim.Native.Nat.{ℕ, ◌+◌, ◌-◌, ◌*◌, ◌<◌, ◌≤◌}
 use lib.ListN.{length}
 use Rattle.meaning.specs.Trees.{Ty, Tys}
 use Rattle.ty.specs.Stands.{Stands, StandAll}
@@ -14,13 +14,11 @@ use Rattle.inst.proofs.+each_as_elements_as_member_as_members_as_value_as.Given 
 abbrev pub decreases-each_as : goal.decreases-each_as
 decreases-each_as l = 4 * l.depth + 2
 
-abbrev pub invariant-each_as-loop-left : goal.invariant-each_as-loop-left
-invariant-each_as-loop-left l =
-    (l.i ≤ length l.s) × ((t : Ty) (z : ℕ) → Stands l.depth l.ty l.o t z → Same (FitsAll l.s l.i (copies l.left t)) (FitsAll l.s l.at (copies l.n t))
-    × ((l.left ≡ l.n → ⊥) → l.q ≡ z))
-
-abbrev pub decreases-each_as-loop-left : goal.decreases-each_as-loop-left
-decreases-each_as-loop-left l = l.left
+abbrev pub invariant-each_as-loop : goal.invariant-each_as-loop
+invariant-each_as-loop l =
+    (l.i ≤ length l.s) ×
+    ((t : Ty) (z : ℕ) → Stands l.depth l.ty l.o t z →
+    Same (FitsAll l.s l.i (copies (l.n - l.counter) t)) (FitsAll l.s l.at (copies l.n t)) × (0 < l.counter → l.q ≡ z))
 
 abbrev pub decreases-elements_as : goal.decreases-elements_as
 decreases-elements_as l = 4 * l.depth + 3
@@ -31,13 +29,10 @@ decreases-member_as l = 4 * l.depth + 1
 abbrev pub decreases-members_as : goal.decreases-members_as
 decreases-members_as l = 4 * l.depth + 2
 
-abbrev pub invariant-members_as-loop-left : goal.invariant-members_as-loop-left
-invariant-members_as-loop-left l =
+abbrev pub invariant-members_as-loop : goal.invariant-members_as-loop
+invariant-members_as-loop l =
     (l.i ≤ length l.s) ×
-    ((m : Tys) (z : ℕ) → StandAll l.depth l.ty l.o l.n m z → MembersLeft l.depth l.ty l.s l.at m z l.i l.q l.left)
-
-abbrev pub decreases-members_as-loop-left : goal.decreases-members_as-loop-left
-decreases-members_as-loop-left l = l.left
+    ((m : Tys) (z : ℕ) → StandAll l.depth l.ty l.o l.n m z → MembersLeft l.depth l.ty l.s l.at m z l.i l.q (l.n - l.counter))
 
 abbrev pub decreases-value_as : goal.decreases-value_as
 decreases-value_as l = 4 * l.depth

@@ -1,6 +1,6 @@
 -- The columns from i on end where all of them do.
 use mathlib.Core.Path.{◌≡◌}
-use Prim.Native.Nat.{◌≤◌}
+use Prim.Native.Nat.{◌-◌, ◌≤◌}
 use lib.ListN.{length}
 use Rattle.meaning.specs.Kinds.{Kind, kind_no}
 use Rattle.meaning.specs.Trees.{Tv}
@@ -8,8 +8,8 @@ use Rattle.ty.specs.TypeFronts.{Same}
 use Rattle.inst.specs.Values.{FitsAll, copies}
 use Rattle.inst.proofs.columns.Given as goal
 
-abbrev pub invariant-loop-left : goal.invariant-loop-left
-invariant-loop-left l = (l.i ≤ length l.s) × ((j : Kind) → l.k ≡ kind_no j → Same (FitsAll l.s l.i (copies l.left (Tv l.r j))) (FitsAll l.s l.at (copies l.n (Tv l.r j))))
-
-abbrev pub decreases-loop-left : goal.decreases-loop-left
-decreases-loop-left l = l.left
+abbrev pub invariant-loop : goal.invariant-loop
+invariant-loop l =
+    (l.i ≤ length l.s) ×
+    ((j : Kind) → l.k ≡ kind_no j →
+    Same (FitsAll l.s l.i (copies (l.n - l.counter) (Tv l.r j))) (FitsAll l.s l.at (copies l.n (Tv l.r j))))

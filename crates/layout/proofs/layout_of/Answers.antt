@@ -1,56 +1,47 @@
 -- What `read_target` says is what `read_target` gives, and the answer follows from it.
-use mathlib.Core.Path.{refl, sym, ◌∙◌}
+use mathlib.Core.Path.{◌≡◌, refl, sym, subst, ◌∙◌}
+use Rattle.meaning.specs.Trees as trees
+use Rattle.meaning.specs.Answers.{no}
 use Rattle.meaning.specs.Layout.{laid_type}
-use Rattle.ty.proofs.Targets.{meant}
+use Rattle.ty.specs.Targets.{Meant}
+use Rattle.ty.proofs.Targets.{meant, shape_only, bad_target}
+use Rattle.error.proofs.Refusals.{passed_on, missing, present}
 use Rattle.layout.specs.Laid.{paper}
 use Rattle.layout.proofs.Answers.{type_short, of_answer, no_answer}
 use Rattle.layout.proofs.layout_of.Goals as goal
+use Rattle.layout.proofs.layout_of.Goals.{In_ok-found}
+
+pub returns-in_err-found : goal.returns-in_err-found
+unfolding paper laid_type
+returns-in_err-found c =
+    let m = missing _ _ c.ok_or.ensures.value c.in_err-found.was in
+    rw (passed_on c.from_residual.result c.from_residual.ensures.1, m.1)
+    (sym (no_answer _ 1 (bad_target _ c.read_target.ensures m.0) refl))
+
+found : (c : In_ok-found) → Meant c.args.target.now c.in_ok-found.found
+found c =
+    meant _ (λ i. (c.type_inv.target i).fits) c.read_target.ensures (present _ _ c.ok_or.ensures.value c.in_ok-found.was)
 
 pub layout_of_type-requires : goal.layout_of_type-requires
-unfolding paper laid_type
 layout_of_type-requires c =
-    let m = meant c.args.target.now (λ i. (c.shared_slice_known-1.given i).fits)
-    (sym c.in-Type.is ∙ c.read_target.ensures) in
+    let m = subst (Meant _) c.in-Type.is (found (goal.at.layout_of_type-requires c).In_ok-found) in
     (record { type = m.type; stands = m.stands }, type_short _ m)
 
 pub returns-in-Type : goal.returns-in-Type
-unfolding paper laid_type
 returns-in-Type c =
-    let m = meant _ (λ i. (c.shared_slice_known-1.given i).fits)
-    (sym c.in-Type.is ∙ c.read_target.ensures) in
+    let m = subst (Meant _) c.in-Type.is (found (goal.at.returns-in-Type c).In_ok-found) in
     c.layout_of_type.ensures m.type m.stands ∙ sym (of_answer _ m.reads)
 
 pub returns-in-Runtime : goal.returns-in-Runtime
 unfolding paper laid_type
 returns-in-Runtime c =
-    sym (no_answer _ 25
-    (meant c.args.target.now (λ i. (c.shared_slice_known-1.given i).fits)
-    (sym c.in-Runtime.is ∙ c.read_target.ensures)).reads refl)
+    let m = subst (Meant _) c.in-Runtime.is (found (goal.at.returns-in-Runtime c).In_ok-found) in
+    sym (no_answer _ 25 m.reads refl)
 
-pub returns-in-Array : goal.returns-in-Array
+pub returns-in_default : goal.returns-in_default
 unfolding paper laid_type
-returns-in-Array c =
-    sym (no_answer _ 1
-    (meant c.args.target.now (λ i. (c.shared_slice_known-1.given i).fits)
-    (sym c.in-Array.is ∙ c.read_target.ensures)) refl)
-
-pub returns-in-Vector : goal.returns-in-Vector
-unfolding paper laid_type
-returns-in-Vector c =
-    sym (no_answer _ 1
-    (meant c.args.target.now (λ i. (c.shared_slice_known-1.given i).fits)
-    (sym c.in-Vector.is ∙ c.read_target.ensures)).0 refl)
-
-pub returns-in-Matrix : goal.returns-in-Matrix
-unfolding paper laid_type
-returns-in-Matrix c =
-    sym (no_answer _ 1
-    (meant c.args.target.now (λ i. (c.shared_slice_known-1.given i).fits)
-    (sym c.in-Matrix.is ∙ c.read_target.ensures)).0 refl)
-
-pub returns-in-Bad : goal.returns-in-Bad
-unfolding paper laid_type
-returns-in-Bad c =
-    sym (no_answer _ 1
-    (meant c.args.target.now (λ i. (c.shared_slice_known-1.given i).fits)
-    (sym c.in-Bad.is ∙ c.read_target.ensures)) refl)
+returns-in_default c =
+    let x = shape_only _ c.in_default.not-Type c.in_default.not-Runtime
+    (found (goal.at.returns-in_default c).In_ok-found)
+    (λ (g : trees.Target). laid_type g ≡ no 1) refl (λ n. refl) (λ a b. refl) in
+    sym (no_answer _ 1 x.1 x.2)

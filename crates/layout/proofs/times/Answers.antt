@@ -1,17 +1,11 @@
--- n times the size is past 64 bits exactly where the size is more than the quotient that is tested.
+-- n times the size is past 64 bits exactly where the product that is checked is.
+use mathlib.Core.Path.{sym}
 use native.Mathlib.Omega.{arith}
-use Rattle.ty.proofs.Lens.{times_fits}
-use Rattle.layout.proofs.Extents.{most, times_over, times_is, times_too}
+use Rattle.layout.proofs.Extents.{extent_is, extent_long}
 use Rattle.layout.proofs.times.Goals as goal
 
-pub returns-then-size-k : goal.returns-then-size-k
-returns-then-size-k c = search times_over
+pub returns-in_err-size : goal.returns-in_err-size
+returns-in_err-size c = rw (c.from_residual.ensures, ← c.from.ensures) (sym (extent_long _ _ _ (omega (arith, c.in_err-size.ensures))))
 
-pub overflow_mul-result : goal.overflow_mul-result
-overflow_mul-result c = record { fits = omega (arith, times_fits most c.requires c.if-size-k.false) }
-
-pub returns-else-size-k : goal.returns-else-size-k
-returns-else-size-k c = search times_is
-
-pub returns-in-TooLong : goal.returns-in-TooLong
-returns-in-TooLong c = search times_too
+pub returns : goal.returns
+returns c = rw (c.in_ok-size.ensures.1, ← c.from.ensures) (sym (extent_is _ _ _ c.in_ok-size.ensures.0))

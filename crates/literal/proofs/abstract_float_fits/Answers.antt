@@ -31,11 +31,11 @@ returns-in-4 c = rw c.in-4.is
 
 pub returns-in-5 : goal.returns-in-5
 unfolding of_kind kind_no kind_of same_kind kind_rank from_afloat some? number conv conv_fits conv_from
-returns-in-5 c = rw (c.in-5.is, c.f64_parts.ensures.means) (fits_where _ _ c.rounds_finite.ensures)
+returns-in-5 c = rw (c.in-5.is, c.unpack.ensures.means) (fits_where _ _ c.rounds_finite.ensures)
 
 pub returns-in-6 : goal.returns-in-6
 unfolding of_kind kind_no kind_of same_kind kind_rank from_afloat some? number conv conv_fits conv_from
-returns-in-6 c = rw (c.in-6.is, c.f64_parts-in-6.ensures.means) (fits_where _ _ c.rounds_finite-in-6.ensures)
+returns-in-6 c = rw (c.in-6.is, c.unpack-in-6.ensures.means) (fits_where _ _ c.rounds_finite-in-6.ensures)
 
 pub returns-in_default : goal.returns-in_default
 unfolding of_kind kind_no kind_of same_kind kind_rank from_afloat some? number conv conv_fits conv_from

@@ -31,7 +31,7 @@ returns-in-3 c =
     rw (
       c.in-3.is,
       c.abstract_int_number.ensures,
-      c.whole_parts-v.ensures.means,
+      c.from-v.ensures.means,
     ) (fits_where _ _ c.integer_fits.ensures)
 
 pub returns-in-4 : goal.returns-in-4
@@ -40,7 +40,7 @@ returns-in-4 c =
     rw (
       c.in-4.is,
       c.abstract_int_number.ensures,
-      c.whole_parts-v.ensures.means,
+      c.from-v.ensures.means,
     ) (fits_where _ _ c.integer_fits-in-4.ensures)
 
 pub returns-in-5 : goal.returns-in-5
@@ -55,7 +55,7 @@ returns-in-6 c =
     rw (
       c.in-6.is,
       c.abstract_int_number.ensures,
-      c.whole_parts-v.ensures.means,
+      c.from-v.ensures.means,
     ) (fits_where _ _ c.rounds_finite.ensures)
 
 pub returns-in_default : goal.returns-in_default

@@ -28,7 +28,7 @@ returns-in-1 c = rw c.in-1.is
 pub returns-in-2 : goal.returns-in-2
 unfolding of_kind kind_no kind_of same_kind kind_rank from_aint some? low high conv conv_fits conv_bits converted_of conv_from
 returns-in-2 c =
-    rw (c.in-2.is, c.abstract_int_number-n.ensures, ← c.int_to_f64.ensures)
+    rw (c.in-2.is, c.abstract_int_number-n.ensures, ← c.of_int.ensures.value)
     c.finite.ensures
 
 pub returns-in-3 : goal.returns-in-3
@@ -37,7 +37,7 @@ returns-in-3 c =
     rw (
       c.in-3.is,
       c.abstract_int_number-n.ensures,
-      c.whole_parts.ensures.means,
+      c.from.ensures.means,
     ) c.integer.ensures
 
 pub returns-in-4 : goal.returns-in-4
@@ -46,7 +46,7 @@ returns-in-4 c =
     rw (
       c.in-4.is,
       c.abstract_int_number-n.ensures,
-      c.whole_parts-in-4.ensures.means,
+      c.from-in-4.ensures.means,
     ) c.integer-in-4.ensures
 
 pub returns-in-5 : goal.returns-in-5
@@ -55,7 +55,7 @@ returns-in-5 c =
     rw (
       c.in-5.is,
       c.abstract_int_number-n.ensures,
-      ← c.int_to_f32.ensures.value,
+      ← c.of_int-in-5.ensures.value,
     ) c.finite-in-5.ensures
 
 pub returns-in-6 : goal.returns-in-6
@@ -64,7 +64,7 @@ returns-in-6 c =
     rw (
       c.in-6.is,
       c.abstract_int_number-n.ensures,
-      ← c.int_to_f16.ensures.value,
+      ← c.of_int-in-6.ensures.value,
     ) c.finite-in-6.ensures
 
 pub returns-in_default : goal.returns-in_default

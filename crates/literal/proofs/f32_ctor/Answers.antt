@@ -10,15 +10,15 @@ use Rattle.literal.proofs.f32_ctor.Goals as goal
 
 pub returns-in-0 : goal.returns-in-0
 unfolding paper ctor_from of_kind kind_of is_abstract same_kind kind_no ctor_lit ctor_test ctor_bits number
-returns-in-0 c = λ s e. rw (c.int_to_f32.ensures.value, c.in-0.is, and-false (checked s))
+returns-in-0 c = λ s e. rw (c.of_int.ensures.value, c.from.ensures, c.in-0.is, and-false (checked s))
 
 pub returns-in-1 : goal.returns-in-1
 unfolding paper ctor_from of_kind kind_of is_abstract same_kind kind_no ctor_lit ctor_test ctor_bits number
 returns-in-1 c =
     λ s e. rw (
-      c.int_to_f32-in-1.ensures.value,
+      c.of_int-in-1.ensures.value,
       c.in-1.is,
-      c.abstract_int_number-n.ensures,
+      c.abstract_int_number.ensures,
       and-false
           (checked s),
     )
@@ -31,17 +31,17 @@ returns-in-2 c =
       c.in-2.is,
       ruled s e,
       and-true (checked s),
-      c.f64_to_f32.ensures.value,
-      c.f64_parts-v.ensures.means,
+      c.convert.ensures.value,
+      c.unpack-v.ensures.means,
     )
 
 pub returns-in-3 : goal.returns-in-3
 unfolding paper ctor_from of_kind kind_of is_abstract same_kind kind_no ctor_lit ctor_test ctor_bits number
-returns-in-3 c = λ s e. rw (c.int_to_f32-in-3.ensures.value, c.in-3.is, c.i32_number-i.ensures, and-false (checked s))
+returns-in-3 c = λ s e. rw (c.of_int-in-3.ensures.value, c.in-3.is, c.i32_number.ensures, and-false (checked s))
 
 pub returns-in-4 : goal.returns-in-4
 unfolding paper ctor_from of_kind kind_of is_abstract same_kind kind_no ctor_lit ctor_test ctor_bits number
-returns-in-4 c = λ s e. rw (c.int_to_f32-in-4.ensures.value, c.in-4.is, and-false (checked s))
+returns-in-4 c = λ s e. rw (c.of_int-in-4.ensures.value, c.from-in-4.ensures, c.in-4.is, and-false (checked s))
 
 pub returns-in-5 : goal.returns-in-5
 unfolding paper ctor_from of_kind kind_of is_abstract same_kind kind_no ctor_lit ctor_test ctor_bits number
@@ -49,7 +49,7 @@ returns-in-5 c = λ s e. rw c.in-5.is
 
 pub returns-in-6 : goal.returns-in-6
 unfolding paper ctor_from of_kind kind_of is_abstract same_kind kind_no ctor_lit ctor_test ctor_bits number
-returns-in-6 c = λ s e. rw (c.f16_to_f32.ensures.value, c.in-6.is, and-false (checked s))
+returns-in-6 c = λ s e. rw (c.convert-in-6.ensures.value, c.in-6.is, and-false (checked s))
 
 pub returns-in_default : goal.returns-in_default
 unfolding paper ctor_from of_kind kind_of is_abstract same_kind kind_no ctor_lit ctor_test ctor_bits number

@@ -5,16 +5,16 @@ use Rattle.literal.specs.LiteralAnswers.{in_range, held_in, paper}
 use Rattle.literal.proofs.Tests.{fits, unfit}
 use Rattle.literal.proofs.fitting.Goals as goal
 
-pub returns-in-To : goal.returns-in-To
+pub returns-in-Some : goal.returns-in-Some
 unfolding paper
-returns-in-To c =
+returns-in-Some c =
     let x = meaning c.parts_of.result in
-    rw c.parts_of.ensures.means (fits (in_range c.args.to x) (held_in c.args.to x) c.in-To.q
-    (sym c.integer.ensures ∙ c.in-To.is))
+    rw c.parts_of.ensures.means (fits (in_range c.args.to x) (held_in c.args.to x) c.in-Some.q
+    (sym c.integer.ensures ∙ c.in-Some.is))
 
-pub returns-in-Unfit : goal.returns-in-Unfit
+pub returns-in-None : goal.returns-in-None
 unfolding paper
-returns-in-Unfit c =
+returns-in-None c =
     let x = meaning c.parts_of.result in
     rw c.parts_of.ensures.means (unfit (in_range c.args.to x) (held_in c.args.to x)
-    (sym c.integer.ensures ∙ c.in-Unfit.is))
+    (sym c.integer.ensures ∙ c.in-None.is))

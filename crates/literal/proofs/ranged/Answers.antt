@@ -5,11 +5,11 @@ use Rattle.literal.proofs.ranged.Goals as goal
 
 pub returns-then-not-rules : goal.returns-then-not-rules
 unfolding paper
-returns-then-not-rules c = rw (not-true c.args.rules.checked c.if-not-rules.true)
+returns-then-not-rules g c = rw (not-true c.args.rules.checked c.if-not-rules.true)
 
 pub returns-then-outside : goal.returns-then-outside
 unfolding paper
-returns-then-outside c =
+returns-then-outside g c =
     rw (
       not-false c.args.rules.checked c.if-not-rules.false,
       ← c.outside.ensures,
@@ -18,7 +18,7 @@ returns-then-outside c =
 
 pub returns-else-outside : goal.returns-else-outside
 unfolding paper
-returns-else-outside c =
+returns-else-outside g c =
     rw (
       not-false c.args.rules.checked c.if-not-rules.false,
       ← c.outside.ensures,

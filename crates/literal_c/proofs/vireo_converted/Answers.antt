@@ -1,11 +1,7 @@
-use Rattle.literal_c.specs.LiteralNumbers.{or_zero}
-use Rattle.literal_c.proofs.Shown.{fits, not}
+-- 0 where it does not fit.
+use mathlib.Core.Path.{◌∙◌}
+use Rattle.literal_c.proofs.Shown.{nothing_0}
 use Rattle.literal_c.proofs.vireo_converted.Goals as goal
 
-pub returns-in-To : goal.returns-in-To
-unfolding or_zero
-returns-in-To c = rw (fits _ _ c.convert_literal.ensures c.in-To.is)
-
-pub returns-in-Unfit : goal.returns-in-Unfit
-unfolding or_zero
-returns-in-Unfit c = rw (not _ c.convert_literal.ensures c.in-Unfit.is)
+pub returns : goal.returns
+returns c = c.unwrap_or.ensures ∙ nothing_0 _ c.convert_literal.ensures

@@ -1,15 +1,15 @@
-use mathlib.Core.Path.{ap, ◌∙◌}
-use Rattle.meaning.specs.Answers.{refusal_of}
-use Rattle.literal_c.proofs.Shown.{built, no_stage}
+-- The number of a refusal, and 0 where there is none.
+use mathlib.Core.Path.{◌≡◌, sym, ap, ◌∙◌}
+use Prim.Native.Nat.{ℕ}
+use Rattle.meaning.specs.Answers.{Result, refusal_of}
+use Rattle.error.specs.Refusals as refusals
+use Rattle.error.proofs.Refusals.{number_of}
 use Rattle.literal_c.proofs.vireo_refusal.Goals as goal
 
-pub returns-in-At : goal.returns-in-At
-returns-in-At c =
-    c.refusal.ensures ∙ ap refusal_of (built c.args.stage c.args.to c.args.from c.args.bits c.rules_at.ensures
-    c.construct_literal.result c.in-At.is c.construct_literal.ensures)
+pub returns-in-Ok : goal.returns-in-Ok
+unfolding refusals.paper refusal_of
+returns-in-Ok c = ap refusal_of (ap refusals.paper (sym c.in-Ok.is) ∙ c.made.ensures)
 
-pub returns-in-Never : goal.returns-in-Never
-unfolding refusal_of
-returns-in-Never c =
-    rw (no_stage c.args.stage c.args.to c.args.from c.args.bits
-    c.rules_at.ensures c.in-Never.is)
+pub returns-in-Err : goal.returns-in-Err
+unfolding refusals.paper
+returns-in-Err c = c.number.ensures ∙ (number_of ℕ _ ∙ ap refusal_of (ap refusals.paper (sym c.in-Err.is) ∙ c.made.ensures))

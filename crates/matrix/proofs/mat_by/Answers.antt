@@ -7,7 +7,7 @@ use Rattle.matrix.proofs.mat_by.Goals as goal
 
 pub returns-then-not-kind_converts : goal.returns-then-not-kind_converts
 returns-then-not-kind_converts c =
-    λ j v l n w h. builds_no c.args.out.now 7
+    λ j v l n w h. builds_no c.args.out.now _
     (mat_no _ _ j v l (kind_stays j n _ (c.requires.first_as.down v l w) c.kind_converts.ensures
     (c.if-not-kind_converts.true)))
 

@@ -2,6 +2,7 @@
 use mathlib.Core.Path.{sym, refl, ◌∙◌}
 use mathlib.Core.List.{[]}
 use Rattle.error.proofs.BufferAtExit.{builds_as, builds_no}
+use Rattle.literal.proofs.Stages.{some_stage}
 use Rattle.scalar.proofs.OneLiteral.{abstract_is, concrete}
 use Rattle.matrix.proofs.Downs.{float_no}
 use Rattle.matrix.proofs.OneToMatrix.{one_mark, mat_other, matrix_is, mat_unequal, equal_row, mat_abstract, mat_concrete}
@@ -11,7 +12,7 @@ pub bounds-args-1 : goal.bounds-args-1
 bounds-args-1 c = search one_mark
 
 pub mat_parts-requires-clause-shape : goal.mat_parts-requires-clause-shape
-mat_parts-requires-clause-shape c = (c.requires.shape.0, c.requires.shape.1, c.requires.shape.2)
+mat_parts-requires-clause-shape c = c.requires.shape
 
 pub mat_parts-requires-clause-some_first : goal.mat_parts-requires-clause-some_first
 mat_parts-requires-clause-some_first c = record { value = _; others = []; row = c.requires.one_arg.row; size = refl }
@@ -26,12 +27,12 @@ same_size-requires c = (matrix_is c.requires.one_arg.row c.if-args-ne109.false).
 
 pub returns-then-not-same_size : goal.returns-then-not-same_size
 returns-then-not-same_size c =
-    λ s j v a n x. builds_no _ 7 (mat_unequal x c.if-args-ne109.false _ _
+    λ s j v a n x. builds_no _ _ (mat_unequal x c.if-args-ne109.false _ _
     (sym c.same_size.ensures ∙ c.if-not-same_size.true) s j)
 
 pub returns-then-is_abstract : goal.returns-then-is_abstract
 returns-then-is_abstract c =
-    λ s j v a n x. builds_no _ 13 (mat_abstract x c.if-args-ne109.false _ _
+    λ s j v a n x. builds_no _ _ (mat_abstract x c.if-args-ne109.false _ _
     (sym c.same_size.ensures ∙ c.if-not-same_size.false) s j (sym (abstract_is j n c.is_abstract.ensures) ∙ c.if-is_abstract.true))
 
 pub mat_made-requires : goal.mat_made-requires
@@ -40,13 +41,13 @@ mat_made-requires c =
     ∙ c.if-not-same_size.false in
     let k = float_no _ c.requires.shape.2 in
     record {
-      at = c.requires.shape.3.stage;
+      at = (some_stage c.args.rules).stage;
       kind = k.0;
       from = _;
       pays = _;
       arg = record {
         ctor = record {
-          ruled = c.requires.shape.3.ruled;
+          ruled = (some_stage c.args.rules).ruled;
           no = k.1;
           concrete = concrete k.0 k.1
               c.is_abstract.ensures c.if-is_abstract.false;

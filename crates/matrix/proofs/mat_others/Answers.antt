@@ -15,7 +15,7 @@ goes_down-requires c = record { type = _; end = _; stands = (c.next_type-step.en
 
 pub returns-then-not-goes_down : goal.returns-then-not-goes_down
 returns-then-not-goes_down c =
-    λ j v l n w h. builds_no _ 7 (mat_no _ _ j v l (goes_no j _
+    λ j v l n w h. builds_no _ _ (mat_no _ _ j v l (goes_no j _
     (sym (c.if-not-goes_down.true) ∙ c.goes_down.ensures j _ _ n
     (c.next_type-step.ensures v l w).stands)))
 

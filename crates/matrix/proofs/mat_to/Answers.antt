@@ -9,7 +9,7 @@ all_convert-requires-clause-asked c = to_asked c.requires.to
 
 pub returns-then-not-all_convert : goal.returns-then-not-all_convert
 returns-then-not-all_convert c =
-    λ j u l x. builds_no c.args.out.now 10
+    λ j u l x. builds_no c.args.out.now _
     (to_no x _ _ (sym (c.if-not-all_convert.true)
     ∙ c.all_convert.ensures l u _ x.row x.stands))
 

@@ -26,7 +26,7 @@ same_size-requires c = (matrix_is c.requires.one_arg.row c.if-args-ne109.false).
 
 pub returns-then-not-same_size : goal.returns-then-not-same_size
 returns-then-not-same_size c =
-    λ v x. builds_no _ 7 (qm_unequal x c.if-args-ne109.false _ _
+    λ v x. builds_no _ _ (qm_unequal x c.if-args-ne109.false _ _
     (sym c.same_size.ensures ∙ c.if-not-same_size.true))
 
 pub returns : goal.returns

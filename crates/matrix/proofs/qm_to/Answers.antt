@@ -1,6 +1,7 @@
 -- The kind decides, then whether all literals fit it; then the shape.
 use mathlib.Core.Path.{sym, ◌∙◌}
 use Rattle.error.proofs.BufferAtExit.{builds_as, builds_no}
+use Rattle.error.proofs.Refusals.{passed_on, missing, present}
 use Rattle.matrix.proofs.MatrixParts.{typed_standing, typed_other, typed_items, typed_no, float, typed_becoming, typed_made}
 use Rattle.matrix.proofs.qm_to.Goals as goal
 
@@ -10,31 +11,32 @@ float_inner-requires c = search typed_standing
 pub fits-requires : goal.fits-requires
 fits-requires c =
     typed_items c.requires.typed
-    (sym c.in-Kind.is ∙ c.float_inner.ensures _ _ c.requires.typed.stands)
+    (sym (present _ _ c.ok_or.ensures.value c.in_ok-k.was) ∙ c.float_inner.ensures _ _ c.requires.typed.stands)
 
 pub returns-then-not-fits : goal.returns-then-not-fits
 returns-then-not-fits c =
-    λ t l x. let h = sym c.in-Kind.is ∙ c.float_inner.ensures t _
+    λ t l x. let h = sym (present _ _ c.ok_or.ensures.value c.in_ok-k.was) ∙ c.float_inner.ensures t _
     x.stands in
-    builds_no _ 10 (typed_no x h c.fits.ensures _ _ (c.if-not-fits.true))
+    builds_no _ _ (typed_no x h c.fits.ensures _ _ (c.if-not-fits.true))
 
 pub of_parts-requires : goal.of_parts-requires
 of_parts-requires c =
-    let h = sym c.in-Kind.is ∙ c.float_inner.ensures
+    let h = sym (present _ _ c.ok_or.ensures.value c.in_ok-k.was) ∙ c.float_inner.ensures
     _ _ c.requires.typed.stands in
     let y = typed_becoming c.requires.typed h c.fits.ensures (c.if-not-fits.false) in
     record { kind = _; type = _; values = _; intos = y.intos; parts = y.parts }
 
-pub returns-else-not-fits : goal.returns-else-not-fits
-returns-else-not-fits c =
-    λ t l x. let h = sym (search) ∙ c.float_inner.ensures t _
+pub returns : goal.returns
+returns c =
+    λ t l x. let h = sym (present _ _ c.ok_or.ensures.value c.in_ok-k.was) ∙ c.float_inner.ensures t _
     x.stands in
     let y = typed_becoming x h c.fits.ensures
     (c.if-not-fits.false) in
     builds_as _ (typed_made x h c.fits.ensures _ _ y)
     (c.of_parts.ensures (float x h).kind t l y.intos y.parts)
 
-pub returns-in-Nothing : goal.returns-in-Nothing
-returns-in-Nothing c =
-    λ t l x. builds_no _ 13 (typed_other x _ _ (sym c.in-Nothing.is
-    ∙ c.float_inner.ensures t _ x.stands))
+pub returns-in_err-k : goal.returns-in_err-k
+returns-in_err-k c =
+    let m = missing _ _ c.ok_or.ensures.value c.in_err-k.was in
+    rw (passed_on c.from_residual.result c.from_residual.ensures.1, m.1)
+    (λ t l x. builds_no _ _ (typed_other x _ _ (sym m.0 ∙ c.float_inner.ensures t _ x.stands)))

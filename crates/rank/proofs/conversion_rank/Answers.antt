@@ -1,57 +1,44 @@
 -- What `read_target` says is what `read_target` gives, and the answer follows from it.
-use mathlib.Core.Path.{refl, sym, ◌∙◌}
+use mathlib.Core.Path.{◌≡◌, refl, sym, subst, ◌∙◌}
+use Rattle.meaning.specs.Trees as trees
+use Rattle.meaning.specs.Answers.{no}
 use Rattle.meaning.specs.Entries.{type_target}
-use Rattle.ty.proofs.Targets.{meant}
-use Rattle.rank.specs.Ranked.{paper}
+use Rattle.ty.specs.Targets.{Meant}
+use Rattle.ty.proofs.Targets.{meant, shape_only, bad_target}
+use Rattle.error.specs.Refusals.{paper}
+use Rattle.error.proofs.Refusals.{passed_on, missing, present}
 use Rattle.rank.proofs.Ranks.{of_answer, tr_answer, no_answer}
 use Rattle.rank.proofs.conversion_rank.Goals as goal
+use Rattle.rank.proofs.conversion_rank.Goals.{In_ok-found}
+
+found : (c : In_ok-found) → Meant c.args.target.now c.in_ok-found.found
+found c = meant _ (λ i. (c.type_inv.target i).fits) c.read_target.ensures (present _ _ c.ok_or.ensures.value c.in_ok-found.was)
+
+pub returns-in_err-found : goal.returns-in_err-found
+unfolding paper
+returns-in_err-found c =
+    let m = missing _ _ c.ok_or.ensures.value c.in_err-found.was in
+    rw (passed_on c.from_residual.result c.from_residual.ensures.1, m.1)
+    (sym (no_answer _ _ (bad_target _ c.read_target.ensures m.0) refl))
 
 pub rank_to-requires : goal.rank_to-requires
-unfolding paper type_target
 rank_to-requires c =
-    let m = meant c.args.target.now
-    (λ i. (c.shared_slice_known-1.given i).fits)
-    (sym c.in-Type.is ∙ c.read_target.ensures) in
+    let m = subst (Meant _) c.in-Type.is (found (goal.at.rank_to-requires c).In_ok-found) in
     record { type = m.type; stands = m.stands }
 
 pub returns-in-Type : goal.returns-in-Type
-unfolding paper type_target
 returns-in-Type c =
-    let m = meant _ (λ i. (c.shared_slice_known-1.given i).fits)
-    (sym c.in-Type.is ∙ c.read_target.ensures) in
+    let m = subst (Meant _) c.in-Type.is (found (goal.at.returns-in-Type c).In_ok-found) in
     c.rank_to.ensures m.type m.stands ∙ sym (of_answer _ _ m.reads)
 
 pub returns-in-Runtime : goal.returns-in-Runtime
-unfolding paper type_target
 returns-in-Runtime c =
-    let m = meant _ (λ i. (c.shared_slice_known-1.given i).fits)
-    (sym c.in-Runtime.is ∙ c.read_target.ensures) in
+    let m = subst (Meant _) c.in-Runtime.is (found (goal.at.returns-in-Runtime c).In_ok-found) in
     c.rank_to_runtime.ensures m.type ∙ sym (tr_answer _ _ m.reads)
 
-pub returns-in-Array : goal.returns-in-Array
+pub returns-in_default : goal.returns-in_default
 unfolding paper type_target
-returns-in-Array c =
-    sym (no_answer _ _ (meant c.args.target.now
-    (λ i. (c.shared_slice_known-1.given i).fits)
-    (sym c.in-Array.is ∙ c.read_target.ensures)) refl)
-
-pub returns-in-Vector : goal.returns-in-Vector
-unfolding paper type_target
-returns-in-Vector c =
-    sym (no_answer _ _ (meant c.args.target.now
-    (λ i. (c.shared_slice_known-1.given i).fits)
-    (sym c.in-Vector.is ∙ c.read_target.ensures)).0 refl)
-
-pub returns-in-Matrix : goal.returns-in-Matrix
-unfolding paper type_target
-returns-in-Matrix c =
-    sym (no_answer _ _ (meant c.args.target.now
-    (λ i. (c.shared_slice_known-1.given i).fits)
-    (sym c.in-Matrix.is ∙ c.read_target.ensures)).0 refl)
-
-pub returns-in-Bad : goal.returns-in-Bad
-unfolding paper type_target
-returns-in-Bad c =
-    sym (no_answer _ _ (meant c.args.target.now
-    (λ i. (c.shared_slice_known-1.given i).fits)
-    (sym c.in-Bad.is ∙ c.read_target.ensures)) refl)
+returns-in_default c =
+    let x = shape_only _ c.in_default.not-Type c.in_default.not-Runtime (found (goal.at.returns-in_default c).In_ok-found)
+    (λ (g : trees.Target). type_target g ≡ no 1) refl (λ n. refl) (λ a b. refl) in
+    sym (no_answer _ _ x.1 x.2)

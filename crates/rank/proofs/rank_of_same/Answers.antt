@@ -1,12 +1,15 @@
--- `rank::rank_of_same` meets its contract: the test is that of the definition.
-use borrow.Author.Tests.{eq-eqb, ne_eqb}
+-- The test is that of the definition.
+use mathlib.Core.Path.{◌≡◌, refl, ◌∙◌}
+use mathlib.Core.Bool.{Bool, true, false, cond}
+use mathlib.Core.Option.{none, some}
+use Rattle.std.specs.Bool.{then_some}
 use Rattle.rank.specs.Ranked.{rank_of}
 use Rattle.rank.proofs.rank_of_same.Goals as goal
 
-pub returns-then-from-to : goal.returns-then-from-to
+tested : (b : Bool) → then_some b 0 ≡ rank_of (cond b (some 0) none)
 unfolding rank_of
-returns-then-from-to c = rw (eq-eqb c.args.from c.args.to c.if-from-to.true)
+tested true = refl
+tested false = refl
 
-pub returns-else-from-to : goal.returns-else-from-to
-unfolding rank_of
-returns-else-from-to c = rw (ne_eqb c.args.from c.args.to c.if-from-to.false)
+pub returns : goal.returns
+returns c = c.then_some.ensures ∙ tested _

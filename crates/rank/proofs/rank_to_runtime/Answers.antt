@@ -4,7 +4,7 @@ use Rattle.meaning.specs.Trees.{Tr}
 use Rattle.meaning.specs.Records.{good_arg}
 use Rattle.meaning.specs.Entries.{rank_one}
 use Rattle.record.proofs.Starts.{decided, refuted}
-use Rattle.rank.specs.Ranked.{paper}
+use Rattle.error.specs.Refusals.{paper}
 use Rattle.rank.proofs.Ranks.{one_read, none_read}
 use Rattle.rank.proofs.rank_to_runtime.Goals as goal
 

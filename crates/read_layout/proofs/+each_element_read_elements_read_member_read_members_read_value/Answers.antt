@@ -8,14 +8,14 @@ use Rattle.read_layout.proofs.Values.{array_room, array_done}
 use Rattle.read_layout.proofs.Values.{struct_front_lem, struct_end, struct_deep, struct_room, struct_within, struct_done}
 use Rattle.read_layout.proofs.Values.{elements_stand, scalars_last, scalars_room, scalars_done, vectors_last, vectors_room}
 use Rattle.read_layout.proofs.Values.{vectors_done}
-use Rattle.read_layout.proofs.Parted.{elements_all, elements_same, element_room, element_within, element_on}
+use Rattle.read_layout.proofs.Parted.{elements_all, element_room, element_within, element_on}
 use Rattle.read_layout.proofs.Parted.{elements_end}
-use Rattle.read_layout.proofs.Parted.{members_all, members_same, member_index, member_within, member_room, member_on}
+use Rattle.read_layout.proofs.Parted.{members_all, member_index, member_within, member_room, member_on}
 use Rattle.read_layout.proofs.Parted.{members_end}
 use Rattle.read_layout.proofs.+each_element_read_elements_read_member_read_members_read_value.Goals as goal
 
-pub each_element-loop-left-init : goal.each_element-loop-left-init
-each_element-loop-left-init t c =
+pub each_element-loop-init : goal.each_element-loop-init
+each_element-loop-init t c =
     elements_all c.args.depth c.args.ty.now c.args.o c.args.n c.args.pad
     c.args.pads.now c.args.mem.now c.args.at c.args.out.now c.args.to c.args.o
 
@@ -28,18 +28,15 @@ each_element-overflow_add-i t c =
       arith,
       element_within
           c.requires
-          c.loop-left.invariant c.loop-left-test.true
-          c.read_value-w.ensures c.wide-skip.ensures.0,
+          c.loop.invariant c.loop-test.true
+          c.read_value-w.ensures c.from-skip.ensures,
     )
 
-pub each_element-loop-left-preserved : goal.each_element-loop-left-preserved
-each_element-loop-left-preserved t c = search element_on
-
-pub each_element-shape_of-out : goal.each_element-shape_of-out
-each_element-shape_of-out t c = search elements_same
+pub each_element-loop-preserved : goal.each_element-loop-preserved
+each_element-loop-preserved t c = search element_on
 
 pub each_element-returns : goal.each_element-returns
-each_element-returns t c = elements_end c.requires c.loop-left.invariant (omega arith)
+each_element-returns t c = elements_end c.requires c.loop.invariant (omega arith)
 
 pub read_elements-head_at-h-requires : goal.read_elements-head_at-h-requires
 read_elements-head_at-h-requires t c = search elements_stand
@@ -125,8 +122,8 @@ read_member-read_value-requires t c = (
 pub read_member-returns : goal.read_member-returns
 read_member-returns t c = c.read_value.ensures
 
-pub read_members-loop-left-init : goal.read_members-loop-left-init
-read_members-loop-left-init t c =
+pub read_members-loop-init : goal.read_members-loop-init
+read_members-loop-init t c =
     members_all c.args.depth c.args.ty.now c.args.o c.args.n c.args.pads.now c.args.mem.now
     c.args.at c.args.out.now c.args.to
 
@@ -134,16 +131,16 @@ pub read_members-overflow_add-q : goal.read_members-overflow_add-q
 read_members-overflow_add-q t c =
     omega (
       arith,
-      member_index c.requires c.loop-left.invariant
-          c.loop-left-test.true,
+      member_index c.requires c.loop.invariant
+          c.loop-test.true,
     )
 
 pub read_members-bounds-pads-q : goal.read_members-bounds-pads-q
 read_members-bounds-pads-q t c =
     omega (
       arith,
-      member_index c.requires c.loop-left.invariant
-          c.loop-left-test.true,
+      member_index c.requires c.loop.invariant
+          c.loop-test.true,
     )
 
 pub read_members-overflow_add-start : goal.read_members-overflow_add-start
@@ -151,20 +148,17 @@ read_members-overflow_add-start t c =
     omega (
       arith,
       member_within c.requires
-          c.loop-left.invariant c.loop-left-test.true c.wide.ensures.0,
+          c.loop.invariant c.loop-test.true c.from.ensures,
     )
 
 pub read_members-read_member-w-requires : goal.read_members-read_member-w-requires
 read_members-read_member-w-requires t c = (omega (arith, c.decreases), search member_room)
 
-pub read_members-loop-left-preserved : goal.read_members-loop-left-preserved
-read_members-loop-left-preserved t c = search member_on
-
-pub read_members-shape_of-out : goal.read_members-shape_of-out
-read_members-shape_of-out t c = search members_same
+pub read_members-loop-preserved : goal.read_members-loop-preserved
+read_members-loop-preserved t c = search member_on
 
 pub read_members-returns : goal.read_members-returns
-read_members-returns t c = members_end c.requires c.loop-left.invariant (omega arith)
+read_members-returns t c = members_end c.requires c.loop.invariant (omega arith)
 
 pub read_value-head_at-requires : goal.read_value-head_at-requires
 read_value-head_at-requires t c = search value_stands
@@ -293,7 +287,7 @@ read_value-overflow_add-result-in-Struct t c =
       struct_within
           c.requires (search)
           c.in-Struct.is (search)
-          c.read_members-w.ensures c.wide.ensures.0,
+          c.read_members-w.ensures c.from-in-Struct.ensures,
     )
 
 pub read_value-returns-in-Scalar : goal.read_value-returns-in-Scalar

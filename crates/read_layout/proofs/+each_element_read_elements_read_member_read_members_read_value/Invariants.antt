@@ -9,13 +9,10 @@ use Rattle.read_layout.proofs.+each_element_read_elements_read_member_read_membe
 abbrev pub decreases-each_element : goal.decreases-each_element
 decreases-each_element l = 4 * l.depth + 2
 
-abbrev pub invariant-each_element-loop-left : goal.invariant-each_element-loop-left
-invariant-each_element-loop-left l =
+abbrev pub invariant-each_element-loop : goal.invariant-each_element-loop
+invariant-each_element-loop l =
     ElementsLeft l.depth l.ty l.o l.n l.pad l.pads l.mem l.at l.initial.out l.to l.out
-    l.end l.i l.p l.left
-
-abbrev pub decreases-each_element-loop-left : goal.decreases-each_element-loop-left
-decreases-each_element-loop-left l = l.left
+    l.end l.i l.p l.counter
 
 abbrev pub decreases-read_elements : goal.decreases-read_elements
 decreases-read_elements l = 4 * l.depth + 3
@@ -26,11 +23,8 @@ decreases-read_member l = 4 * l.depth + 1
 abbrev pub decreases-read_members : goal.decreases-read_members
 decreases-read_members l = 4 * l.depth + 2
 
-abbrev pub invariant-read_members-loop-left : goal.invariant-read_members-loop-left
-invariant-read_members-loop-left l = MembersLeft l.depth l.ty l.o l.n l.pads l.mem l.at l.initial.out l.to l.out l.q l.i l.p l.left
-
-abbrev pub decreases-read_members-loop-left : goal.decreases-read_members-loop-left
-decreases-read_members-loop-left l = l.left
+abbrev pub invariant-read_members-loop : goal.invariant-read_members-loop
+invariant-read_members-loop l = MembersLeft l.depth l.ty l.o l.n l.pads l.mem l.at l.initial.out l.to l.out l.q l.i l.p l.counter
 
 abbrev pub decreases-read_value : goal.decreases-read_value
 decreases-read_value l = 4 * l.depth

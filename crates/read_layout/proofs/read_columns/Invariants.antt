@@ -2,8 +2,5 @@
 use Rattle.read_layout.proofs.Vectors.{ColumnsLeft}
 use Rattle.read_layout.proofs.read_columns.Given as goal
 
-abbrev pub invariant-loop-left : goal.invariant-loop-left
-invariant-loop-left l = ColumnsLeft l.mem l.at l.n l.r l.k l.pad l.initial.out l.to l.out l.i l.p l.left
-
-abbrev pub decreases-loop-left : goal.decreases-loop-left
-decreases-loop-left l = l.left
+abbrev pub invariant-loop : goal.invariant-loop
+invariant-loop l = ColumnsLeft l.mem l.at l.n l.r l.k l.pad l.initial.out l.to l.out l.i l.p l.counter

@@ -1,10 +1,10 @@
 -- What writes the rest makes the whole; the place in memory says what the rest is.
 use native.Mathlib.Omega.{arith}
-use Rattle.read_layout.proofs.Scalars.{scalars_all, scalars_same, scalar_within, scalar_room, scalar_on, scalars_end}
+use Rattle.read_layout.proofs.Scalars.{scalars_all, scalar_within, scalar_room, scalar_on, scalars_end}
 use Rattle.read_layout.proofs.read_scalars.Goals as goal
 
-pub loop-left-init : goal.loop-left-init
-loop-left-init c = scalars_all c.args.mem.now c.args.at c.args.n c.args.k c.args.out.now c.args.to
+pub loop-init : goal.loop-init
+loop-init c = scalars_all c.args.mem.now c.args.at c.args.n c.args.k c.args.out.now c.args.to
 
 pub number-requires : goal.number-requires
 number-requires c = (c.scalar_size-size.ensures.1, search scalar_within)
@@ -17,21 +17,18 @@ overflow_add-i c =
     omega (
       arith,
       scalar_within c.requires
-          c.loop-left.invariant
+          c.loop.invariant
           c.scalar_size-size.ensures.0
-          c.loop-left-test.true,
+          c.loop-test.true,
     )
 
-pub loop-left-preserved : goal.loop-left-preserved
-loop-left-preserved c =
+pub loop-preserved : goal.loop-preserved
+loop-preserved c =
     scalar_on c.requires
-    c.loop-left.invariant
+    c.loop.invariant
     c.scalar_size-size.ensures.0
-    c.loop-left-test.true
+    c.loop-test.true
     c.number.ensures c.put_literal-p.ensures
 
-pub shape_of-out : goal.shape_of-out
-shape_of-out c = search scalars_same
-
 pub returns : goal.returns
-returns c = scalars_end c.requires c.loop-left.invariant (omega arith)
+returns c = scalars_end c.requires c.loop.invariant (omega arith)

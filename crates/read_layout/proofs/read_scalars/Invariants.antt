@@ -2,8 +2,5 @@
 use Rattle.read_layout.proofs.Scalars.{ScalarsLeft}
 use Rattle.read_layout.proofs.read_scalars.Given as goal
 
-abbrev pub invariant-loop-left : goal.invariant-loop-left
-invariant-loop-left l = ScalarsLeft l.mem l.at l.n l.k l.initial.out l.to l.out l.i l.p l.left
-
-abbrev pub decreases-loop-left : goal.decreases-loop-left
-decreases-loop-left l = l.left
+abbrev pub invariant-loop : goal.invariant-loop
+invariant-loop l = ScalarsLeft l.mem l.at l.n l.k l.initial.out l.to l.out l.i l.p l.counter

@@ -1,12 +1,13 @@
 -- An abstract kind, no literal, or what the constructor makes of the literal.
 use native.Mathlib.Omega.{arith}
 use Rattle.error.proofs.BufferAtExit.{builds_no, builds_as}
+use Rattle.error.proofs.Refusals.{passed_on}
 use Rattle.scalar.specs.Made.{Ctor}
-use Rattle.scalar.proofs.OneLiteral.{abstract_no, concrete, arg_room, other_no, single_within, single_good, single_build}
+use Rattle.scalar.proofs.OneLiteral.{abstract_no, concrete, arg_room, other_no, single_within, single_good, single_made, single_refused}
 use Rattle.scalar.proofs.scalar.Goals as goal
 
 pub returns-then-is_abstract : goal.returns-then-is_abstract
-returns-then-is_abstract c = λ s j v e n w. builds_no _ 4 (abstract_no j n c.is_abstract.ensures c.if-is_abstract.true s v)
+returns-then-is_abstract c = λ s j v e n w. builds_no _ _ (abstract_no j n c.is_abstract.ensures c.if-is_abstract.true s v)
 
 pub bounds-args-1 : goal.bounds-args-1
 bounds-args-1 c = omega (arith, arg_room c.requires.one_arg.row)
@@ -17,9 +18,16 @@ returns-then-args-ne115 c = λ s j v e n w. search (builds_no, other_no, concret
 pub made_at-requires : goal.made_at-requires
 made_at-requires c = search single_within
 
+pub returns-in_err-payload : goal.returns-in_err-payload
+returns-in_err-payload c =
+    rw (passed_on c.from_residual.result c.from_residual.ensures.1)
+    (λ s j v e n w. let t = concrete j n c.is_abstract.ensures c.if-is_abstract.false in
+    let x : Ctor _ _ s j = record { ruled = e; no = n; concrete = t } in
+    builds_no _ _ (single_refused w c.if-args-ne115.false x c.made_at.result c.made_at.ensures c.in_err-payload.was))
+
 pub returns : goal.returns
 returns c =
-    λ s j v e n w. let t = concrete j n c.is_abstract.ensures (search) in
+    λ s j v e n w. let t = concrete j n c.is_abstract.ensures c.if-is_abstract.false in
     let x : Ctor _ _ s j = record { ruled = e; no = n; concrete = t } in
-    builds_as _ (single_build w c.if-args-ne115.false x c.made_at.result c.made_at.ensures)
-    (c.hand_literal.ensures j n (single_good w c.if-args-ne115.false x c.made_at.result c.made_at.ensures))
+    builds_as _ (single_made w c.if-args-ne115.false x c.made_at.result c.made_at.ensures c.in_ok-payload.was)
+    (c.hand_literal.ensures j n (single_good w c.if-args-ne115.false x c.made_at.result c.made_at.ensures c.in_ok-payload.was))

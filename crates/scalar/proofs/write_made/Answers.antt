@@ -53,8 +53,5 @@ loop-i-preserved c = (
       (λ a b u q. c.put_made-p.ensures s j a b x u (given_ok (make_item s j a) q)),
 )
 
-pub shape_of-out : goal.shape_of-out
-shape_of-out c = c.loop-i.invariant.0
-
 pub returns : goal.returns
 returns c = λ s j l m x w g. write_end (c.loop-i.invariant.1 s j l m x w g) c.loop-i-test.false

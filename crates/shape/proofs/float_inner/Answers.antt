@@ -3,10 +3,10 @@ use mathlib.Core.Path.{sym, ◌∙◌}
 use Rattle.shape.proofs.KindsFound.{inner_float, inner_nothing}
 use Rattle.shape.proofs.float_inner.Goals as goal
 
-pub returns-in-Kind : goal.returns-in-Kind
-returns-in-Kind c =
-    λ t e w. inner_float t (sym c.in-Kind.is ∙ c.inner_kind.ensures t e w)
+pub returns-in-Some : goal.returns-in-Some
+returns-in-Some c =
+    λ t e w. inner_float t (sym c.in-Some.is ∙ c.inner_kind.ensures t e w)
     c.float_kind.ensures
 
-pub returns-in-Nothing : goal.returns-in-Nothing
-returns-in-Nothing c = λ t e w. inner_nothing t (sym c.in-Nothing.is ∙ c.inner_kind.ensures t e w)
+pub returns-in-None : goal.returns-in-None
+returns-in-None c = λ t e w. inner_nothing t (sym c.in-None.is ∙ c.inner_kind.ensures t e w)

@@ -18,7 +18,7 @@ pub returns-then-count-w : goal.returns-then-count-w
 returns-then-count-w c =
     λ t e w. columns_few w _ _ _ (sym c.in-Vector.is
     ∙ c.head_at.ensures t e w) c.if-n-r.false
-    c.wide-w.ensures.0 c.if-count-w.true
+    c.from-w.ensures c.if-count-w.true
 
 pub returns-else-count-n : goal.returns-else-count-n
 returns-else-count-n c =
@@ -29,7 +29,7 @@ pub returns-else-count-w : goal.returns-else-count-w
 returns-else-count-w c =
     λ t e w. columns_right w _ _ _ (sym c.in-Vector.is
     ∙ c.head_at.ensures t e w) c.if-n-r.false
-    c.wide-w.ensures.0 c.if-count-w.false
+    c.from-w.ensures c.if-count-w.false
 
 pub returns-in-Matrix : goal.returns-in-Matrix
 returns-in-Matrix c = λ t e w. matrix_no w _ _ _ (sym c.in-Matrix.is ∙ c.head_at.ensures t e w)

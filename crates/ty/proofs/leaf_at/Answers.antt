@@ -8,15 +8,7 @@ pub bounds-ty-at : goal.bounds-ty-at
 bounds-ty-at c = omega (arith, any_front c.requires.stands)
 
 pub bounds-ty-at-then-ty-at-eq115 : goal.bounds-ty-at-then-ty-at-eq115
-bounds-ty-at-then-ty-at-eq115 c =
-    let x = scalar_by c.requires.stands c.if-ty-at-eq115.true in omega
-    (arith, x.end, c.requires.stands.within)
+bounds-ty-at-then-ty-at-eq115 c = omega (arith, any_front c.requires.stands)
 
 pub returns-then-ty-at-eq115 : goal.returns-then-ty-at-eq115
 returns-then-ty-at-eq115 c = λ t e w. scalar_leaf w (scalar_head (scalar_by w c.if-ty-at-eq115.true))
-
-pub walk_leaf-requires : goal.walk_leaf-requires
-walk_leaf-requires c = c.requires
-
-pub returns : goal.returns
-returns c = c.walk_leaf.ensures

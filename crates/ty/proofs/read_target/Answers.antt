@@ -1,5 +1,4 @@
 -- Each test that holds gives the target that it asks for; where none does, `read_target` gives none.
-use native.Mathlib.Omega.{arith}
 use Rattle.record.proofs.Starts.{decided, refuted}
 use Rattle.ty.proofs.Targets.{array_answer, vector_answer, matrix_answer, runtime_answer, type_answer_lem, bad_answer}
 use Rattle.ty.proofs.read_target.Goals as goal
@@ -7,17 +6,8 @@ use Rattle.ty.proofs.read_target.Goals as goal
 pub returns-then-is_array_shape : goal.returns-then-is_array_shape
 returns-then-is_array_shape c = array_answer (decided c.is_array_shape.ensures c.if-is_array_shape.true)
 
-pub bounds-s-2 : goal.bounds-s-2
-bounds-s-2 c = let w = decided c.is_vector_shape.ensures c.if-is_vector_shape.true in omega (arith, w.size)
-
 pub returns-then-is_vector_shape : goal.returns-then-is_vector_shape
 returns-then-is_vector_shape c = vector_answer (decided c.is_vector_shape.ensures c.if-is_vector_shape.true)
-
-pub bounds-s-2-then-is_matrix_shape : goal.bounds-s-2-then-is_matrix_shape
-bounds-s-2-then-is_matrix_shape c = let w = decided c.is_matrix_shape.ensures c.if-is_matrix_shape.true in omega (arith, w.size)
-
-pub bounds-s-3 : goal.bounds-s-3
-bounds-s-3 c = let w = decided c.is_matrix_shape.ensures c.if-is_matrix_shape.true in omega (arith, w.size)
 
 pub returns-then-is_matrix_shape : goal.returns-then-is_matrix_shape
 returns-then-is_matrix_shape c = matrix_answer (decided c.is_matrix_shape.ensures c.if-is_matrix_shape.true)
@@ -30,7 +20,7 @@ returns-then-is_type c = type_answer_lem (decided c.is_type.ensures c.if-is_type
 
 pub returns : goal.returns
 returns c =
-    bad_answer (λ i. (c.shared_slice_known-1.given i).fits)
+    bad_answer (λ i. (c.type_inv.s i).fits)
     (refuted c.is_array_shape.ensures
     c.if-is_array_shape.false)
     (refuted c.is_vector_shape.ensures

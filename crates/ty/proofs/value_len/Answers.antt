@@ -7,19 +7,8 @@ use Rattle.ty.proofs.value_len.Goals as goal
 pub bounds-ty-at : goal.bounds-ty-at
 bounds-ty-at c = omega (arith, any_front c.requires.stands)
 
-pub overflow_add-result : goal.overflow_add-result
-overflow_add-result c = let x = scalar_by c.requires.stands c.if-ty-at-eq115.true in omega (arith, x.end, c.requires.stands.within)
-
 pub bounds-ty-at-then-ty-at-eq115 : goal.bounds-ty-at-then-ty-at-eq115
-bounds-ty-at-then-ty-at-eq115 c =
-    let x = scalar_by c.requires.stands c.if-ty-at-eq115.true in omega
-    (arith, x.end, c.requires.stands.within)
+bounds-ty-at-then-ty-at-eq115 c = omega (arith, any_front c.requires.stands)
 
 pub returns-then-ty-at-eq115 : goal.returns-then-ty-at-eq115
 returns-then-ty-at-eq115 c = λ t e w. scalar_len w (scalar_head (scalar_by w c.if-ty-at-eq115.true)) c.literal_len.ensures
-
-pub walk_len-requires : goal.walk_len-requires
-walk_len-requires c = c.requires
-
-pub returns : goal.returns
-returns c = c.walk_len.ensures

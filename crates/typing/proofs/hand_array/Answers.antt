@@ -1,23 +1,16 @@
 -- Measured first, then the mark, the count and the element type.
 use native.Mathlib.Omega.{arith}
-use lib.ListN.{length-set}
 use Rattle.error.proofs.BufferAtExit.{refused}
 use Rattle.typing.proofs.Hands.{array_long, array_put, marked_len, count_end}
 use Rattle.typing.proofs.hand_array.Goals as goal
 
 pub returns-then-out-lt4 : goal.returns-then-out-lt4
-returns-then-out-lt4 c = λ t w. refused 22 _ (array_long w c.args.n c.args.out.now (omega arith))
+returns-then-out-lt4 c = λ t w. refused _ _ (array_long w c.args.n c.args.out.now (omega arith))
 
 pub returns-then-q-out : goal.returns-then-q-out
 returns-then-q-out c =
-    λ t w. refused 22 _ (array_long w c.args.n c.args.out.now
+    λ t w. refused _ _ (array_long w c.args.n c.args.out.now
     (omega arith))
-
-pub bounds-out-1 : goal.bounds-out-1
-bounds-out-1 c = simp length-set (omega arith)
-
-pub put_le-p-requires : goal.put_le-p-requires
-put_le-p-requires c = (tt, simp length-set (omega arith))
 
 pub copy-requires : goal.copy-requires
 copy-requires c = (
@@ -30,15 +23,6 @@ copy-requires c = (
     marked_len c.args.out.now 84 97,
   ),
 )
-
-pub shape_of-out : goal.shape_of-out
-shape_of-out c =
-    omega (
-      arith,
-      c.copy.auto.out,
-      c.put_le-p.auto.out,
-      marked_len c.args.out.now 84 97,
-    )
 
 pub returns : goal.returns
 returns c = λ t w. array_put w _ _ (omega arith) (search) c.copy.ensures

@@ -1,7 +1,7 @@
 -- A literal is repeated, a vector of that length kept, anything else is one part.
 use mathlib.Core.Path.{refl}
 use native.Mathlib.Omega.{arith}
-use Rattle.error.proofs.BufferAtExit.{builds_as, builds_no, builds_miscount}
+use Rattle.error.proofs.BufferAtExit.{builds_as, builds_no}
 use Rattle.args.proofs.Kept.{hand_kept}
 use Rattle.vector.proofs.Args.{arg_front, arg_literal, arg_vector, arg_other, literal_bits, literal_good}
 use Rattle.vector.proofs.OneToVector.{qv_literal, qv_other_length, qv_length, qv_other}
@@ -31,7 +31,7 @@ pub bounds-args-2-then-mark-eq118 : goal.bounds-args-2-then-mark-eq118
 bounds-args-2-then-mark-eq118 c = omega (arith, arg_front c.requires.one_arg.row)
 
 pub returns-then-args-n : goal.returns-then-args-n
-returns-then-args-n c = λ v x. builds_no _ 7 (qv_other_length _ (arg_vector x c.if-mark-eq118.true) c.if-args-n.true)
+returns-then-args-n c = λ v x. builds_no _ _ (qv_other_length _ (arg_vector x c.if-mark-eq118.true) c.if-args-n.true)
 
 pub returns-then-mark-eq118 : goal.returns-then-mark-eq118
 returns-then-mark-eq118 c =
@@ -39,4 +39,4 @@ returns-then-mark-eq118 c =
     (hand_kept x refl c.hand.ensures)
 
 pub returns : goal.returns
-returns c = λ v x. search (builds_miscount, qv_other, arg_other)
+returns c = λ v x. search (builds_no, qv_other, arg_other)

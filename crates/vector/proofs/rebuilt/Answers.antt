@@ -2,6 +2,8 @@
 use mathlib.Core.Path.{sym, ◌∙◌}
 use native.Mathlib.Omega.{arith}
 use Rattle.error.proofs.BufferAtExit.{builds_as, builds_no}
+use Rattle.error.proofs.Refusals.{passed_on}
+use Rattle.literal.proofs.Stages.{some_stage}
 use Rattle.scalar.specs.Made.{Ctor}
 use Rattle.scalar.proofs.OneLiteral.{abstract_is, concrete}
 use Rattle.vector.proofs.Args.{arg_front, arg_vector}
@@ -14,27 +16,22 @@ bounds-args-2 c = omega (arith, arg_front c.requires.one_arg.row)
 
 pub returns-then-args-n : goal.returns-then-args-n
 returns-then-args-n c =
-    λ s j v a e x. builds_no c.args.out.now 7
+    λ s j v a e x. builds_no c.args.out.now _
     (vec_other_length (arg_vector x c.requires.mark) s c.args.n j c.if-args-n.true)
 
 pub returns-then-is_abstract : goal.returns-then-is_abstract
 returns-then-is_abstract c =
-    λ s j v a e x. builds_no _ 12 (vec_abstract (arg_vector x (search)) s _ j c.if-args-n.false
+    λ s j v a e x. builds_no _ _ (vec_abstract (arg_vector x (search)) s _ j c.if-args-n.false
     (sym (abstract_is j e c.is_abstract.ensures) ∙ c.if-is_abstract.true))
 
-pub all_made-no-requires : goal.all_made-no-requires
-all_made-no-requires c = vector_items c.requires.one_arg.row (arg_vector c.requires.one_arg.row c.requires.mark) c.requires.some_stage.stage c.requires.some_kind.kind
+pub all_made-requires : goal.all_made-requires
+all_made-requires c = vector_items c.requires.one_arg.row (arg_vector c.requires.one_arg.row c.requires.mark) (some_stage c.args.rules).stage c.requires.some_kind.kind
 
-pub returns-then-no-ne0 : goal.returns-then-no-ne0
-returns-then-no-ne0 c =
-    λ s j v a e x. let t : Ctor _ _ s j = record {
-      ruled = a;
-      no = e;
-      concrete = concrete j e c.is_abstract.ensures
-          c.if-is_abstract.false;
-    } in
-    builds_no _ c.all_made-no.result (made_no x (arg_vector x (search)) c.if-args-n.false t
-    c.all_made-no.ensures c.if-no-ne0.true)
+pub returns-in_err-all_made : goal.returns-in_err-all_made
+returns-in_err-all_made c =
+    rw (passed_on c.from_residual.result c.from_residual.ensures.1)
+    (λ s j v a e x. let t : Ctor _ _ s j = record { ruled = a; no = e; concrete = concrete j e c.is_abstract.ensures c.if-is_abstract.false } in
+    builds_no _ _ (made_no x (arg_vector x c.requires.mark) c.if-args-n.false t c.all_made.result c.all_made.ensures c.in_err-all_made.was))
 
 pub returns-then-vector_len-out : goal.returns-then-vector_len-out
 returns-then-vector_len-out c =
@@ -44,20 +41,20 @@ returns-then-vector_len-out c =
       concrete = concrete j e
           c.is_abstract.ensures c.if-is_abstract.false;
     } in
-    let y = remade x (arg_vector x (search)) (search) t c.all_made-no.ensures c.if-no-ne0.false in
+    let y = remade x (arg_vector x (search)) c.if-args-n.false t c.all_made.result c.all_made.ensures c.in_ok-all_made.was in
     builds_as _ y.is (vector_long _ c.vector_len.ensures j e y.pays y.count y.good _ c.if-vector_len-out.true)
 
 pub write_made-requires : goal.write_made-requires
 write_made-requires c =
     let w = arg_vector c.requires.one_arg.row c.requires.mark in
-    let t : Ctor c.args.rules c.args.k c.requires.some_stage.stage c.requires.some_kind.kind =
+    let t : Ctor c.args.rules c.args.k (some_stage c.args.rules).stage c.requires.some_kind.kind =
     record {
-      ruled = c.requires.some_stage.ruled;
+      ruled = (some_stage c.args.rules).ruled;
       no = c.requires.some_kind.no;
       concrete = concrete c.requires.some_kind.kind c.requires.some_kind.no (search)
           c.if-is_abstract.false;
     } in
-    let y = remade c.requires.one_arg.row w (search) t c.all_made-no.ensures c.if-no-ne0.false in
+    let y = remade c.requires.one_arg.row w c.if-args-n.false t c.all_made.result c.all_made.ensures c.in_ok-all_made.was in
     remade_room c.requires.one_arg.row w (search) t y (whole_room c.args.n c.vector_len.ensures c.requires.some_kind.kind c.requires.some_kind.no y.pays y.count
     y.good c.args.out.now c.if-vector_len-out.false)
 
@@ -70,7 +67,7 @@ returns c =
       concrete = concrete j e
           c.is_abstract.ensures (search);
     } in
-    let y = remade x w (search) t c.all_made-no.ensures (search) in
+    let y = remade x w c.if-args-n.false t c.all_made.result c.all_made.ensures c.in_ok-all_made.was in
     builds_as c.args.out.now y.is
     (whole_record c.args.n c.vector_len.ensures j e y.pays y.count y.good c.args.out.now
     c.if-vector_len-out.false (remade_put x w (search) t y c.write_made.ensures))

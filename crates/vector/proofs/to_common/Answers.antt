@@ -21,7 +21,7 @@ fits-requires c = search (flat_items, common_kind, common_flat)
 
 pub returns-then-not-fits : goal.returns-then-not-fits
 returns-then-not-fits c =
-    λ l t x. builds_no _ 10 (qv_none x c.if-ty-eq115.true (fits_none (common_kind x c.if-ty-eq115.true) x.row (common_flat x c.if-ty-eq115.true) (common_no x c.if-ty-eq115.true) c.fits.ensures
+    λ l t x. builds_no _ _ (qv_none x c.if-ty-eq115.true (fits_none (common_kind x c.if-ty-eq115.true) x.row (common_flat x c.if-ty-eq115.true) (common_no x c.if-ty-eq115.true) c.fits.ensures
     (c.if-not-fits.true)))
 
 pub write_parts-requires : goal.write_parts-requires
@@ -47,10 +47,10 @@ all_fit-requires c = search asked_fit
 
 pub returns-then-not-all_fit : goal.returns-then-not-all_fit
 returns-then-not-all_fit c =
-    λ l t x. builds_no _ 10 (qv_unfit x c.if-ty-eq115.false (c.all_fit.ensures l t _ x.row x.whole)
+    λ l t x. builds_no _ _ (qv_unfit x c.if-ty-eq115.false (c.all_fit.ensures l t _ x.row x.whole)
     (c.if-not-all_fit.true))
 
 pub returns : goal.returns
 returns c =
-    λ l t x. builds_no _ 12 (qv_not_scalar x c.if-ty-eq115.false (c.all_fit.ensures l t _ x.row x.whole)
+    λ l t x. builds_no _ _ (qv_not_scalar x c.if-ty-eq115.false (c.all_fit.ensures l t _ x.row x.whole)
     (c.if-not-all_fit.false))

@@ -1,6 +1,6 @@
 -- By the second letter of the mark.
 use native.Mathlib.Omega.{arith}
-use Rattle.error.proofs.BufferAtExit.{builds_miscount}
+use Rattle.error.proofs.BufferAtExit.{builds_no}
 use Rattle.vector.proofs.Args.{arg_front, arg_other}
 use Rattle.vector.proofs.OneToVector.{vec_other}
 use Rattle.vector.proofs.vec_one.Goals as goal
@@ -20,9 +20,6 @@ splat-requires-clause-mark c = c.if-mark-eq115.true
 pub returns-then-mark-eq115 : goal.returns-then-mark-eq115
 returns-then-mark-eq115 c = λ s j v a e x. c.splat.ensures s j v e x
 
-pub rebuilt-requires-clause-some_stage : goal.rebuilt-requires-clause-some_stage
-rebuilt-requires-clause-some_stage c = c.requires.some_stage
-
 pub rebuilt-requires-clause-some_kind : goal.rebuilt-requires-clause-some_kind
 rebuilt-requires-clause-some_kind c = c.requires.some_kind
 
@@ -36,4 +33,4 @@ pub returns-then-mark-eq118 : goal.returns-then-mark-eq118
 returns-then-mark-eq118 c = λ s j v a e x. c.rebuilt.ensures s j v a e x
 
 pub returns : goal.returns
-returns c = λ s j v a e x. search (builds_miscount, vec_other, arg_other)
+returns c = λ s j v a e x. search (builds_no, vec_other, arg_other)

@@ -3,7 +3,7 @@ use mathlib.Core.Path.{sym, ◌∙◌, subst}
 use lib.Dec.{T}
 use Rattle.meaning.specs.Build.{flattened}
 use Rattle.laws.proofs.Each.{some_length}
-use Rattle.error.proofs.BufferAtExit.{builds_as, builds_no, builds_miscount}
+use Rattle.error.proofs.BufferAtExit.{builds_as, builds_no}
 use Rattle.vector.specs.VectorParts.{pay_to}
 use Rattle.vector.proofs.Lits.{other_none}
 use Rattle.vector.proofs.Decides.{vec_miscount, vec_none, vec_some, flat_items, fits_none, fits_goes}
@@ -11,12 +11,12 @@ use Rattle.vector.proofs.vec_parts.Goals as goal
 
 pub returns-then-m-wanted : goal.returns-then-m-wanted
 returns-then-m-wanted c =
-    λ j l e x. builds_miscount c.args.out.now c.args.n c.flat_count-m.result
+    λ j l e x. builds_no c.args.out.now _
     (vec_miscount c.args.n c.flat_count-m.result j (flattened l) c.if-m-wanted.true (c.flat_count-m.ensures l x))
 
 pub returns-then-not-all_flat : goal.returns-then-not-all_flat
 returns-then-not-all_flat c =
-    λ j l e x. builds_no _ 9 (vec_none _ c.flat_count-m.result j (flattened l) c.if-m-wanted.false (c.flat_count-m.ensures l x)
+    λ j l e x. builds_no _ _ (vec_none _ c.flat_count-m.result j (flattened l) c.if-m-wanted.false (c.flat_count-m.ensures l x)
     (other_none j l (sym (c.all_flat.ensures l x) ∙ c.if-not-all_flat.true)))
 
 pub fits-requires : goal.fits-requires
@@ -28,7 +28,7 @@ pub returns-then-not-fits : goal.returns-then-not-fits
 returns-then-not-fits c =
     λ j l e x. let f = subst T (sym (c.if-not-all_flat.false)
     ∙ c.all_flat.ensures l x) tt in
-    builds_no _ 9 (vec_none _ c.flat_count-m.result j (flattened l) c.if-m-wanted.false (c.flat_count-m.ensures l x)
+    builds_no _ _ (vec_none _ c.flat_count-m.result j (flattened l) c.if-m-wanted.false (c.flat_count-m.ensures l x)
     (fits_none j x f e c.fits.ensures (c.if-not-fits.true)))
 
 pub write_parts-requires : goal.write_parts-requires

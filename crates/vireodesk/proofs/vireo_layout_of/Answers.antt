@@ -1,26 +1,30 @@
 -- The entry's answer, told in numbers.
-use mathlib.Core.Path.{◌≡◌, sym, ap, ◌∙◌}
+use mathlib.Core.Path.{◌≡◌, refl, sym, ap, ◌∙◌}
 use Prim.Native.Nat.{ℕ}
-use Rattle.meaning.specs.Answers.{Result, refusal_of}
-use Rattle.layout.specs.Laid.{paper}
-use Rattle.layout.specs.declared.Laid.{Laid}
-use Rattle.layout.specs.declared.Laid.TheVariants as laid
+use Rattle.meaning.specs.Answers.{refusal_of}
+use Rattle.error.specs.Refusals.{number, refusal}
 use Rattle.error.specs.Numbers.{value_of}
+use Rattle.error.specs.declared.Refusal.{Refusal}
+use Rattle.error.proofs.Refusals.{Told, plain, counted, told}
+use Rattle.layout.specs.Laid.{paper}
 use Rattle.vireodesk.specs.MemoryLayouts.{layout_numbers}
 use Rattle.vireodesk.proofs.vireo_layout_of.Goals as goal
 
-sized : {a : Result (ℕ × ℕ)} {r : Laid} (n m : ℕ) → paper r ≡ a → r ≡ laid.Layout n m
-    → record { refusal = 0; size = n; align = m } ≡ layout_numbers a
+pub returns-in-Ok : goal.returns-in-Ok
 unfolding paper refusal_of value_of
-sized n m e g = ap layout_numbers (sym (ap paper g) ∙ e)
+returns-in-Ok c = ap layout_numbers (sym (ap paper c.in-Ok.is) ∙ c.layout_of.ensures)
 
-refused : {a : Result (ℕ × ℕ)} {r : Laid} (n : ℕ) → paper r ≡ a → r ≡ laid.Refused n
-    → record { refusal = n; size = 0; align = 0 } ≡ layout_numbers a
-unfolding paper refusal_of value_of
-refused n e g = ap layout_numbers (sym (ap paper g) ∙ e)
+-- a refusal has its number, and neither size nor alignment
+refused_numbers : (x : Refusal) → record { refusal = number x; size = 0; align = 0 } ≡ layout_numbers (refusal x)
+unfolding refusal_of value_of
+refused_numbers x = go x (told x)
+  where
+    go : (y : Refusal) → Told y → record { refusal = number y; size = 0; align = 0 } ≡ layout_numbers (refusal y)
+    go y (plain e) = rw (e (ℕ × ℕ)) refl
+    go _ (counted w g) = refl
 
-pub returns-in-Layout : goal.returns-in-Layout
-returns-in-Layout c = sized _ _ c.layout_of.ensures c.in-Layout.is
-
-pub returns-in-Refused : goal.returns-in-Refused
-returns-in-Refused c = refused _ c.layout_of.ensures c.in-Refused.is
+pub returns-in-Err : goal.returns-in-Err
+unfolding paper
+returns-in-Err c =
+    rw c.number.ensures
+    (refused_numbers _ ∙ ap layout_numbers (sym (ap paper c.in-Err.is) ∙ c.layout_of.ensures))

@@ -1,11 +1,8 @@
 -- `write_value` calls `write_elements` and `write_members` at a depth one less; `write_elements` calls `each_element`,
 -- `write_members` calls `write_member`, and these two call `write_value`, each at its own depth d: 4d for
 -- `write_value`, 4d + 1 for `write_member`, 4d + 2 for the loops, 4d + 3 for `write_elements`.
-use mathlib.Core.Path.{refl, ◌∙◌}
 use native.Mathlib.Omega.{arith}
-use Rattle.meaning.specs.Layout.{mem_members}
-use Rattle.record.proofs.Left.{left_all}
-use Rattle.write_layout.proofs.Walks.{each_all, each_room, each_pad, each_on, each_end, all_here, all_pad}
+use Rattle.write_layout.proofs.Walks.{each_all, each_room, each_pad, each_on, each_end, all_all, all_here, all_pad}
 use Rattle.write_layout.proofs.Walks.{all_room, all_on, all_end}
 use Rattle.write_layout.proofs.Arms.{value_stands, table_here, scalar_room, scalar_type, vector_here, vector_room, vector_type}
 use Rattle.write_layout.proofs.Arms.{matrix_here, matrix_room, matrix_type}
@@ -15,35 +12,28 @@ use Rattle.write_layout.proofs.Arms.{scalar_done, vector_done, matrix_done, arra
 use Rattle.write_layout.proofs.Arms.{scalars_type, vectors_room, vectors_type, scalars_done, vectors_done}
 use Rattle.write_layout.proofs.+each_element_write_elements_write_member_write_members_write_value.Goals as goal
 
-pub each_element-loop-left-init : goal.each_element-loop-left-init
-each_element-loop-left-init t c = (refl, λ q e u l x. each_all x c.args.out.now c.args.to)
+pub each_element-loop-init : goal.each_element-loop-init
+each_element-loop-init t c = λ q e u l x. each_all x c.args.out.now c.args.to
 
 pub each_element-write_value-w-requires : goal.each_element-write_value-w-requires
 each_element-write_value-w-requires t c = (
   omega (arith, c.decreases),
   each_room c.requires.are
-      (c.loop-left.invariant.1 c.requires.ty_end c.requires.end c.requires.type c.requires.values c.requires.are) c.loop-left-test.true (omega (arith, c.requires.room, c.loop-left.invariant.0)),
+      (c.loop.invariant c.requires.ty_end c.requires.end c.requires.type c.requires.values c.requires.are) c.loop-test.true (omega (arith, c.requires.room)),
 )
 
 pub each_element-put_zeros-p-requires : goal.each_element-put_zeros-p-requires
 each_element-put_zeros-p-requires t c =
-    each_pad c.requires.are (c.loop-left.invariant.1 c.requires.ty_end c.requires.end c.requires.type c.requires.values c.requires.are)
-    c.loop-left-test.true c.write_value-w.ensures
-    (omega (arith, c.requires.room, c.loop-left.invariant.0, c.write_value-w.auto.out))
+    each_pad c.requires.are (c.loop.invariant c.requires.ty_end c.requires.end c.requires.type c.requires.values c.requires.are)
+    c.loop-test.true c.write_value-w.ensures
+    (omega (arith, c.requires.room, c.write_value-w.auto.out))
 
-pub each_element-loop-left-preserved : goal.each_element-loop-left-preserved
-each_element-loop-left-preserved t c = (
-  c.put_zeros-p.auto.out ∙ (c.write_value-w.auto.out
-      ∙ c.loop-left.invariant.0),
-  λ q e u l x. each_on x (c.loop-left.invariant.1 q e u l x) c.loop-left-test.true
-      c.write_value-w.ensures c.put_zeros-p.ensures,
-)
-
-pub each_element-shape_of-out : goal.each_element-shape_of-out
-each_element-shape_of-out t c = c.loop-left.invariant.0
+pub each_element-loop-preserved : goal.each_element-loop-preserved
+each_element-loop-preserved t c =
+    λ q e u l x. each_on x (c.loop.invariant q e u l x) c.loop-test.true c.write_value-w.ensures c.put_zeros-p.ensures
 
 pub each_element-returns : goal.each_element-returns
-each_element-returns t c = λ q e u l x. each_end x (c.loop-left.invariant.1 q e u l x) (omega arith)
+each_element-returns t c = λ q e u l x. each_end x (c.loop.invariant q e u l x) (omega arith)
 
 pub write_elements-head_at-h-requires : goal.write_elements-head_at-h-requires
 write_elements-head_at-h-requires t c = search elements_stand
@@ -60,9 +50,6 @@ write_elements-overflow_add-result t c =
           c.head_at-h.ensures
           c.in-Scalar.is,
     )
-
-pub write_elements-shape_of-out-in-Scalar : goal.write_elements-shape_of-out-in-Scalar
-write_elements-shape_of-out-in-Scalar t c = c.write_literals-w.auto.out
 
 pub write_elements-returns-in-Scalar : goal.write_elements-returns-in-Scalar
 write_elements-returns-in-Scalar t c =
@@ -82,9 +69,6 @@ write_elements-overflow_add-result-in-Vector t c =
           c.in-Vector.is,
     )
 
-pub write_elements-shape_of-out-in-Vector : goal.write_elements-shape_of-out-in-Vector
-write_elements-shape_of-out-in-Vector t c = c.write_columns-w.auto.out
-
 pub write_elements-returns-in-Vector : goal.write_elements-returns-in-Vector
 write_elements-returns-in-Vector t c =
     λ q e u l x. vectors_done x c.head_at-h.ensures (search)
@@ -95,9 +79,6 @@ write_elements-each_element-requires t c = (
   omega (arith, c.decreases),
   c.requires,
 )
-
-pub write_elements-shape_of-out : goal.write_elements-shape_of-out
-write_elements-shape_of-out t c = c.each_element.auto.out
 
 pub write_elements-returns : goal.write_elements-returns
 write_elements-returns t c = c.each_element.ensures
@@ -117,9 +98,6 @@ write_member-overflow_add-result t c =
           c.head_at-h.ensures
           c.in-Scalar.is,
     )
-
-pub write_member-shape_of-out-in-Scalar : goal.write_member-shape_of-out-in-Scalar
-write_member-shape_of-out-in-Scalar t c = c.write_literals-w.auto.out
 
 pub write_member-returns-in-Scalar : goal.write_member-returns-in-Scalar
 write_member-returns-in-Scalar t c =
@@ -147,9 +125,6 @@ write_member-overflow_add-result-in-Vector t c =
           c.in-Vector.is,
     )
 
-pub write_member-shape_of-out-in-Vector : goal.write_member-shape_of-out-in-Vector
-write_member-shape_of-out-in-Vector t c = c.write_literals-w-in-Vector.auto.out
-
 pub write_member-returns-in-Vector : goal.write_member-returns-in-Vector
 write_member-returns-in-Vector t c =
     λ q e v x. vector_done x c.head_at-h.ensures
@@ -161,50 +136,39 @@ write_member-write_value-requires t c = (
   c.requires,
 )
 
-pub write_member-shape_of-out : goal.write_member-shape_of-out
-write_member-shape_of-out t c = c.write_value.auto.out
-
 pub write_member-returns : goal.write_member-returns
 write_member-returns t c = c.write_value.ensures
 
-pub write_members-loop-left-init : goal.write_members-loop-left-init
-write_members-loop-left-init t c = (refl, λ q e off l x. record { values = l; off = off; are = x; rest = left_all c.args.out.now c.args.to (mem_members off l) })
+pub write_members-loop-init : goal.write_members-loop-init
+write_members-loop-init t c = λ q e off l x. all_all c.args.out.now c.args.to x
 
 pub write_members-overflow_add-q : goal.write_members-overflow_add-q
 write_members-overflow_add-q t c =
     omega
-    (arith, all_here (c.loop-left.invariant.1 c.requires.ty_end c.requires.end c.requires.off c.requires.values c.requires.are) c.loop-left-test.true)
+    (arith, all_here (c.loop.invariant c.requires.ty_end c.requires.end c.requires.off c.requires.values c.requires.are) c.loop-test.true)
 
 pub write_members-bounds-pads-q : goal.write_members-bounds-pads-q
 write_members-bounds-pads-q t c =
     all_here
-    (c.loop-left.invariant.1 c.requires.ty_end c.requires.end c.requires.off c.requires.values c.requires.are) c.loop-left-test.true
+    (c.loop.invariant c.requires.ty_end c.requires.end c.requires.off c.requires.values c.requires.are) c.loop-test.true
 
 pub write_members-put_zeros-start-requires : goal.write_members-put_zeros-start-requires
-write_members-put_zeros-start-requires t c = all_pad (c.loop-left.invariant.1 c.requires.ty_end c.requires.end c.requires.off c.requires.values c.requires.are) c.loop-left-test.true (omega (arith, c.requires.room, c.loop-left.invariant.0))
+write_members-put_zeros-start-requires t c = all_pad (c.loop.invariant c.requires.ty_end c.requires.end c.requires.off c.requires.values c.requires.are) c.loop-test.true (omega (arith, c.requires.room))
 
 pub write_members-write_member-w-requires : goal.write_members-write_member-w-requires
 write_members-write_member-w-requires t c = (
   omega (arith, c.decreases),
   all_room
-      (c.loop-left.invariant.1 c.requires.ty_end c.requires.end c.requires.off c.requires.values c.requires.are) c.loop-left-test.true
-      c.put_zeros-start.ensures (omega (arith, c.requires.room, c.loop-left.invariant.0, c.put_zeros-start.auto.out)),
+      (c.loop.invariant c.requires.ty_end c.requires.end c.requires.off c.requires.values c.requires.are) c.loop-test.true
+      c.put_zeros-start.ensures (omega (arith, c.requires.room, c.put_zeros-start.auto.out)),
 )
 
-pub write_members-loop-left-preserved : goal.write_members-loop-left-preserved
-write_members-loop-left-preserved t c = (
-  c.write_member-w.auto.out ∙
-      (c.put_zeros-start.auto.out ∙ c.loop-left.invariant.0),
-  λ q e off l x. all_on (c.loop-left.invariant.1 q e off l x)
-      c.loop-left-test.true
-      c.put_zeros-start.ensures c.write_member-w.ensures,
-)
-
-pub write_members-shape_of-out : goal.write_members-shape_of-out
-write_members-shape_of-out t c = c.loop-left.invariant.0
+pub write_members-loop-preserved : goal.write_members-loop-preserved
+write_members-loop-preserved t c =
+    λ q e off l x. all_on (c.loop.invariant q e off l x) c.loop-test.true c.put_zeros-start.ensures c.write_member-w.ensures
 
 pub write_members-returns : goal.write_members-returns
-write_members-returns t c = λ q e off l x. all_end (c.loop-left.invariant.1 q e off l x) (omega arith)
+write_members-returns t c = λ q e off l x. all_end (c.loop.invariant q e off l x) (omega arith)
 
 pub write_value-head_at-requires : goal.write_value-head_at-requires
 write_value-head_at-requires t c = search value_stands
@@ -320,42 +284,25 @@ write_value-bounds-pads-o-in-Struct t c = search table_here
 pub write_value-put_zeros-p-requires : goal.write_value-put_zeros-p-requires
 write_value-put_zeros-p-requires t c = search struct_pad
 
-pub write_value-shape_of-out-in-Scalar : goal.write_value-shape_of-out-in-Scalar
-write_value-shape_of-out-in-Scalar t c = c.write_literals-w.auto.out
-
 pub write_value-returns-in-Scalar : goal.write_value-returns-in-Scalar
 write_value-returns-in-Scalar t c =
     λ q e v x. scalar_done x c.head_at.ensures (search)
     c.write_literals-w.ensures
-
-pub write_value-shape_of-out-in-Vector : goal.write_value-shape_of-out-in-Vector
-write_value-shape_of-out-in-Vector t c = c.write_literals-w-in-Vector.auto.out
 
 pub write_value-returns-in-Vector : goal.write_value-returns-in-Vector
 write_value-returns-in-Vector t c =
     λ q e v x. vector_done x c.head_at.ensures
     c.in-Vector.is (search) c.write_literals-w-in-Vector.ensures
 
-pub write_value-shape_of-out-in-Matrix : goal.write_value-shape_of-out-in-Matrix
-write_value-shape_of-out-in-Matrix t c = c.write_columns-w.auto.out
-
 pub write_value-returns-in-Matrix : goal.write_value-returns-in-Matrix
 write_value-returns-in-Matrix t c =
     λ q e v x. matrix_done x c.head_at.ensures
     c.in-Matrix.is (search) c.write_columns-w.ensures
 
-pub write_value-shape_of-out-in-Array : goal.write_value-shape_of-out-in-Array
-write_value-shape_of-out-in-Array t c = c.write_elements.auto.out
-
 pub write_value-returns-in-Array : goal.write_value-returns-in-Array
 write_value-returns-in-Array t c =
     λ q e v x. array_done x c.head_at.ensures (search)
     c.write_elements.ensures
-
-pub write_value-shape_of-out-in-Struct : goal.write_value-shape_of-out-in-Struct
-write_value-shape_of-out-in-Struct t c =
-    c.put_zeros-p.auto.out ∙
-    c.write_members-w.auto.out
 
 pub write_value-returns-in-Struct : goal.write_value-returns-in-Struct
 write_value-returns-in-Struct t c =

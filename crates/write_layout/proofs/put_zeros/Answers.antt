@@ -1,28 +1,19 @@
--- What writes the rest makes the whole: so many times a zero byte.
-use mathlib.Core.Path.{refl, ◌∙◌}
-use mathlib.Core.List.{[], ◌∷◌}
+-- A part overwritten by zero bytes.
+use mathlib.Core.Path.{ap, ◌∙◌}
+use Prim.Native.Nat.{ℕ, ◌+◌, ◌≤◌}
 use native.Mathlib.Omega.{arith}
-use Rattle.record.proofs.Left.{copies_all, copies_room, copies_on, copies_end}
-use Rattle.write_layout.proofs.Parts.{zeros_times}
+use lib.ListN.{length, replicate}
+use Rattle.std.proofs.lemmas.List.Edits.{length-between}
+use Rattle.record.proofs.Puts.{put_part}
+use Rattle.write_layout.proofs.Parts.{zeros_is, zeros_long}
 use Rattle.write_layout.proofs.put_zeros.Goals as goal
 
-pub loop-left-init : goal.loop-left-init
-loop-left-init c = (refl, copies_all (0 ∷ []) c.args.n c.args.out.now c.args.to)
-
-pub put_byte-p-requires : goal.put_byte-p-requires
-put_byte-p-requires c =
-    copies_room c.loop-left.invariant.1 c.loop-left-test.true
-    (omega (arith, rw zeros_times at c.requires, c.loop-left.invariant.0))
-
-pub loop-left-preserved : goal.loop-left-preserved
-loop-left-preserved c = (
-  c.put_byte-p.auto.out ∙ c.loop-left.invariant.0,
-  copies_on c.loop-left.invariant.1 c.loop-left-test.true
-      c.put_byte-p.ensures,
-)
-
-pub shape_of-out : goal.shape_of-out
-shape_of-out c = c.loop-left.invariant.0
+pub slice_bounds-fill-end : goal.slice_bounds-fill-end
+slice_bounds-fill-end c = omega (arith, c.requires, zeros_long c.args.n)
 
 pub returns : goal.returns
-returns c = rw zeros_times (copies_end c.loop-left.invariant.1 (omega arith))
+returns c =
+    let h : c.args.to + c.from.result ≤ length c.args.out.now = omega (arith, c.requires, zeros_long c.args.n) in
+    let k = length-between c.args.out.now c.args.to (c.args.to + c.from.result) h in
+    put_part c.requires (omega (arith, zeros_long c.args.n))
+    (c.fill.ensures.after (λ y e. e) ∙ (rw (zeros_is c.args.n) (ap (λ (m : ℕ). replicate m 0) (omega (arith, k)))))

@@ -1,17 +1,12 @@
 -- What writes the rest of the columns makes the whole, and the rest of them stands where the loop has come to.
-use mathlib.Core.Path.{◌≡◌}
 use mathlib.Core.List.{List}
 use Prim.Native.Nat.{ℕ}
-use lib.ListN.{length}
 use Rattle.meaning.specs.Kinds.{Kind}
 use Rattle.write_layout.specs.Memory.{Columns}
 use Rattle.write_layout.proofs.Columns.{ColumnsLeft}
 use Rattle.write_layout.proofs.write_columns.Given as goal
 
-abbrev pub invariant-loop-left : goal.invariant-loop-left
-invariant-loop-left l =
-    (length l.out ≡ length l.initial.out) × ((e : ℕ) (j : Kind) (cols : List (List ℕ)) → Columns l.s l.at l.n l.r l.k l.pad e j cols
-    → ColumnsLeft l.s l.r l.k l.pad e j cols l.initial.out l.to l.i l.p l.left l.out)
-
-abbrev pub decreases-loop-left : goal.decreases-loop-left
-decreases-loop-left l = l.left
+abbrev pub invariant-loop : goal.invariant-loop
+invariant-loop l =
+    (e : ℕ) (j : Kind) (cols : List (List ℕ)) → Columns l.s l.at l.n l.r l.k l.pad e j cols
+    → ColumnsLeft l.s l.n l.r l.k l.pad e j cols l.initial.out l.to l.i l.p l.counter l.out

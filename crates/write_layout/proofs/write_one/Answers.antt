@@ -1,46 +1,52 @@
 -- The answer follows from `has_layout` and `measure`, each of which speaks of the value's type.
 use mathlib.Core.Path.{sym, ◌∙◌}
 use native.Mathlib.Omega.{arith}
-use Rattle.meaning.specs.Layout.{mem_bytes}
+use lib.ListN.{length}
+use Rattle.meaning.specs.Trees.{Val, type_of}
+use Rattle.meaning.specs.Layout.{mem_bytes, size_of, align_of}
+use Rattle.error.proofs.Refusals.{passed_on, missing, present}
 use Rattle.error.proofs.BufferAtExit.{refused, written}
-use Rattle.layout.proofs.Extents.{is_extent, long_extent}
+use Rattle.layout.proofs.Extents.{SizeIs, is_extent, long_extent}
+use Rattle.write_layout.specs.Memory.{Asked}
 use Rattle.write_layout.proofs.Answers.{no_layout, too_long, has_room, asked_long, asked_value, asked_room}
 use Rattle.write_layout.proofs.write_one.Goals as goal
+use Rattle.write_layout.proofs.write_one.Goals.{In_ok-extent}
+
+size_is : (c : In_ok-extent) {v : Val} → Asked c.args.ty.now c.args.args.now v
+    → SizeIs c.in_ok-extent.extent (length c.args.ty.now) (size_of (type_of v)) (align_of (type_of v))
+size_is c x =
+    is_extent _ _ _ (sym (present _ _ c.ok_or.ensures.value c.in_ok-extent.was) ∙ (c.measure.ensures _ _ x.type).is)
 
 pub returns-then-not-has_layout : goal.returns-then-not-has_layout
-returns-then-not-has_layout c = λ v x. refused 25 _ (no_layout v _ (c.has_layout.ensures _ x.type) c.if-not-has_layout.true)
+returns-then-not-has_layout c = λ v x. refused _ _ (no_layout v _ (c.has_layout.ensures _ x.type) c.if-not-has_layout.true)
 
-pub returns-then-size-out : goal.returns-then-size-out
-returns-then-size-out c =
-    λ v x. let n = is_extent _ _ _ (sym c.in-Is.is ∙ (c.measure.ensures _ _
-    x.type).is) in
-    refused 22 _ (too_long v _ (c.has_layout.ensures _ x.type)
-    c.if-not-has_layout.false (omega (arith, n.size, c.if-size-out.true)))
+pub returns-in_err-extent : goal.returns-in_err-extent
+returns-in_err-extent c =
+    λ v x. let m = missing _ _ c.ok_or.ensures.value c.in_err-extent.was in
+    let n = long_extent _ _ _ (sym m.0 ∙ (c.measure.ensures _ _ x.type).is) in
+    rw (passed_on c.from_residual.result c.from_residual.ensures.1, m.1)
+    (refused _ c.args.out.now
+    (too_long v _ (c.has_layout.ensures _ x.type) c.if-not-has_layout.false (omega (arith, n))))
+
+pub returns-then-extent-out : goal.returns-then-extent-out
+returns-then-extent-out c =
+    λ v x. let n = size_is (goal.at.returns-then-extent-out c).In_ok-extent x in
+    refused _ _
+    (too_long v _ (c.has_layout.ensures _ x.type) c.if-not-has_layout.false (omega (arith, n.size, c.if-extent-out.true)))
 
 pub write_value-w-requires : goal.write_value-w-requires
 write_value-w-requires c =
-    let y = c.measure.ensures _ _ c.requires.asked.type in
-    let n = is_extent _ _ _ (sym c.in-Is.is ∙ y.is) in
-    asked_room c.requires.asked (y.table n.fits) (omega (
-      arith,
-      c.requires.asked.short,
-      c.measure.auto.pads,
-    )) _ (omega (arith, n.size, c.if-size-out.false))
+    let x = c.requires.asked in
+    let n = size_is (goal.at.write_value-w-requires c).In_ok-extent x in
+    asked_room x ((c.measure.ensures _ _ x.type).table n.fits) (omega (arith, x.short, c.measure.auto.pads)) _
+    (omega (arith, n.size, c.if-extent-out.false))
 
-pub returns-else-size-out : goal.returns-else-size-out
-returns-else-size-out c =
-    λ v x. let y = c.measure.ensures _ _ x.type in
-    let n = is_extent _ _ _ (sym c.in-Is.is ∙ y.is) in
-    written (mem_bytes v) (has_room v _
-    (c.has_layout.ensures _
-    x.type) c.if-not-has_layout.false
-    (omega (arith, n.size, c.if-size-out.false))) (omega (arith, asked_long x, n.size, c.if-size-out.false))
-    (c.write_value-w.ensures _ _ v (asked_value x (y.table n.fits)
-    (omega (arith, x.short, c.measure.auto.pads)))).2
-
-pub returns-in-TooLong : goal.returns-in-TooLong
-returns-in-TooLong c =
-    λ v x. let n = long_extent _ _ _ (sym c.in-TooLong.is ∙ (c.measure.ensures _ _ x.type).is) in
-    refused 22 c.args.out.now
-    (too_long v _ (c.has_layout.ensures _ x.type)
-    c.if-not-has_layout.false (omega (arith, n)))
+pub returns : goal.returns
+returns c =
+    λ v x. let n = size_is (goal.at.returns c).In_ok-extent x in
+    written (mem_bytes v)
+    (has_room v _ (c.has_layout.ensures _ x.type) c.if-not-has_layout.false
+    (omega (arith, n.size, c.if-extent-out.false)))
+    (omega (arith, asked_long x, n.size, c.if-extent-out.false))
+    (c.write_value-w.ensures _ _ v
+    (asked_value x ((c.measure.ensures _ _ x.type).table n.fits) (omega (arith, x.short, c.measure.auto.pads)))).2

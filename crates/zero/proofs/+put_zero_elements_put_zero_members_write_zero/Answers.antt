@@ -1,69 +1,46 @@
 -- `write_zero` calls `put_zero_elements` and `put_zero_members` at a depth one less, and both call it at their own
 -- depth: 2d for `write_zero` and 2d + 1 for the others.
-use mathlib.Core.Path.{refl, sym, ◌∙◌}
+use mathlib.Core.Path.{sym, ◌∙◌}
 use native.Mathlib.Omega.{arith}
-use Rattle.meaning.specs.Trees.{zero_of, zeros_of}
-use Rattle.meaning.specs.Records.{val_bytes, vals_bytes}
-use Rattle.record.proofs.Left.{left_all, copies_all}
 use Rattle.zero.proofs.Zeros.{room_stands, scalar_zero_is, vector_zero_is, matrix_zero_is, whole_done, array_done, struct_done}
 use Rattle.zero.proofs.Zeros.{scalar_room, vector_room, matrix_room, array_room, array_deep, array_parts, struct_room}
 use Rattle.zero.proofs.Zeros.{struct_deep, struct_parts}
-use Rattle.zero.proofs.Zeros.{each_room, each_on, each_end, all_room, all_on, all_end}
+use Rattle.zero.proofs.Zeros.{each_first, each_room, each_on, each_end, all_first, all_room, all_on, all_end}
 use Rattle.zero.proofs.+put_zero_elements_put_zero_members_write_zero.Goals as goal
 
-pub put_zero_elements-loop-elements-init : goal.put_zero_elements-loop-elements-init
-put_zero_elements-loop-elements-init t c = (
-  refl,
-  λ u e w.
-      record { after = λ h. absurd (omega arith); rest = copies_all (val_bytes (zero_of u)) c.args.n c.args.out.now c.args.to },
-)
+pub put_zero_elements-loop-element-init : goal.put_zero_elements-loop-element-init
+put_zero_elements-loop-element-init t c = λ u e w. each_first u e c.args.n c.args.out.now c.args.to c.args.at
 
 pub put_zero_elements-write_zero-w-requires : goal.put_zero_elements-write_zero-w-requires
 put_zero_elements-write_zero-w-requires t c = (
   omega (arith, c.decreases),
-  each_room c.requires.stands (c.loop-elements.invariant.1 c.requires.type c.requires.end c.requires.stands)
-      (omega (arith, c.loop-elements-test.true)) (omega (arith, c.requires.room, c.loop-elements.invariant.0)),
+  each_room c.requires.stands (c.loop-element.invariant c.requires.type c.requires.end c.requires.stands)
+      c.loop-element-test.true (omega (arith, c.requires.room)),
 )
 
-pub put_zero_elements-loop-elements-preserved : goal.put_zero_elements-loop-elements-preserved
-put_zero_elements-loop-elements-preserved t c = (
-  c.write_zero-w.auto.out ∙ c.loop-elements.invariant.0,
-  λ u e w. each_on w (c.loop-elements.invariant.1 u e w)
-      (omega (arith, c.loop-elements-test.true)) c.write_zero-w.ensures,
-)
-
-pub put_zero_elements-shape_of-out : goal.put_zero_elements-shape_of-out
-put_zero_elements-shape_of-out t c = c.loop-elements.invariant.0
+pub put_zero_elements-loop-element-preserved : goal.put_zero_elements-loop-element-preserved
+put_zero_elements-loop-element-preserved t c =
+    λ u e w. each_on w (c.loop-element.invariant u e w) c.loop-element-test.true c.write_zero-w.ensures
 
 pub put_zero_elements-returns : goal.put_zero_elements-returns
-put_zero_elements-returns t c = λ u e w. each_end w (c.loop-elements.invariant.1 u e w) c.requires.some (omega arith)
+put_zero_elements-returns t c = λ u e w. each_end w (c.loop-element.invariant u e w) c.requires.some (omega arith)
 
-pub put_zero_members-loop-members-init : goal.put_zero_members-loop-members-init
-put_zero_members-loop-members-init t c = (
-  refl,
-  λ m e w.
-      record { types = m; stands = w; rest = left_all c.args.out.now c.args.to (vals_bytes (zeros_of m)) },
-)
+pub put_zero_members-loop-member-init : goal.put_zero_members-loop-member-init
+put_zero_members-loop-member-init t c = λ m e w. all_first c.args.out.now c.args.to w
 
 pub put_zero_members-write_zero-w-requires : goal.put_zero_members-write_zero-w-requires
 put_zero_members-write_zero-w-requires t c = (
   omega (arith, c.decreases),
-  all_room (c.loop-members.invariant.1 c.requires.types c.requires.end c.requires.stands)
-      c.loop-members-test.true (omega (arith, c.requires.room, c.loop-members.invariant.0)),
+  all_room (c.loop-member.invariant c.requires.types c.requires.end c.requires.stands)
+      c.loop-member-test.true (omega (arith, c.requires.room)),
 )
 
-pub put_zero_members-loop-members-preserved : goal.put_zero_members-loop-members-preserved
-put_zero_members-loop-members-preserved t c = (
-  c.write_zero-w.auto.out ∙ c.loop-members.invariant.0,
-  λ m e w. all_on (c.loop-members.invariant.1 m e w)
-      c.loop-members-test.true c.write_zero-w.ensures,
-)
-
-pub put_zero_members-shape_of-out : goal.put_zero_members-shape_of-out
-put_zero_members-shape_of-out t c = c.loop-members.invariant.0
+pub put_zero_members-loop-member-preserved : goal.put_zero_members-loop-member-preserved
+put_zero_members-loop-member-preserved t c =
+    λ m e w. all_on (c.loop-member.invariant m e w) c.loop-member-test.true c.write_zero-w.ensures
 
 pub put_zero_members-returns : goal.put_zero_members-returns
-put_zero_members-returns t c = λ m e w. all_end (c.loop-members.invariant.1 m e w) (omega arith)
+put_zero_members-returns t c = λ m e w. all_end (c.loop-member.invariant m e w) (omega arith)
 
 pub write_zero-head_at-requires : goal.write_zero-head_at-requires
 write_zero-head_at-requires t c = search room_stands
@@ -103,45 +80,26 @@ write_zero-put_zero_members-requires t c = (
       c.put_struct-p.auto.out,
 )
 
-pub write_zero-shape_of-out-in-Scalar : goal.write_zero-shape_of-out-in-Scalar
-write_zero-shape_of-out-in-Scalar t c = c.put_zero-p.auto.out
-
 pub write_zero-returns-in-Scalar : goal.write_zero-returns-in-Scalar
 write_zero-returns-in-Scalar t c =
     λ u e w. whole_done w (scalar_zero_is w (sym c.in-Scalar.is
     ∙ c.head_at.ensures u e w)) c.put_zero-p.ensures
-
-pub write_zero-shape_of-out-in-Vector : goal.write_zero-shape_of-out-in-Vector
-write_zero-shape_of-out-in-Vector t c = c.put_vector-p.auto.out
 
 pub write_zero-returns-in-Vector : goal.write_zero-returns-in-Vector
 write_zero-returns-in-Vector t c =
     λ u e w. whole_done w (vector_zero_is w (sym c.in-Vector.is
     ∙ c.head_at.ensures u e w)) c.put_vector-p.ensures
 
-pub write_zero-shape_of-out-in-Matrix : goal.write_zero-shape_of-out-in-Matrix
-write_zero-shape_of-out-in-Matrix t c = c.put_matrix-p.auto.out
-
 pub write_zero-returns-in-Matrix : goal.write_zero-returns-in-Matrix
 write_zero-returns-in-Matrix t c =
     λ u e w. whole_done w (matrix_zero_is w (sym c.in-Matrix.is
     ∙ c.head_at.ensures u e w)) c.put_matrix-p.ensures
-
-pub write_zero-shape_of-out-in-Array : goal.write_zero-shape_of-out-in-Array
-write_zero-shape_of-out-in-Array t c =
-    c.put_zero_elements.auto.out ∙
-    c.put_array-p.auto.out
 
 pub write_zero-returns-in-Array : goal.write_zero-returns-in-Array
 write_zero-returns-in-Array t c =
     λ u e w. array_done w (sym (search) ∙
     c.head_at.ensures u e w) (search)
     c.put_zero_elements.ensures
-
-pub write_zero-shape_of-out-in-Struct : goal.write_zero-shape_of-out-in-Struct
-write_zero-shape_of-out-in-Struct t c =
-    c.put_zero_members.auto.out ∙
-    c.put_struct-p.auto.out
 
 pub write_zero-returns-in-Struct : goal.write_zero-returns-in-Struct
 write_zero-returns-in-Struct t c =

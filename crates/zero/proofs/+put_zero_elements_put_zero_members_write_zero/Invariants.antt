@@ -1,8 +1,6 @@
 -- `write_zero` calls `put_zero_elements` and `put_zero_members` at a depth one less, and both call it at their own
 -- depth: 2d for `write_zero` and 2d + 1 for the others.
-use mathlib.Core.Path.{◌≡◌}
 use Prim.Native.Nat.{ℕ, ◌+◌, ◌*◌}
-use lib.ListN.{length}
 use Rattle.meaning.specs.Trees.{Ty, Tys}
 use Rattle.ty.specs.Stands.{Stands, StandAll}
 use Rattle.zero.proofs.Zeros.{EachLeft, AllLeft}
@@ -11,20 +9,16 @@ use Rattle.zero.proofs.+put_zero_elements_put_zero_members_write_zero.Given as g
 abbrev pub decreases-put_zero_elements : goal.decreases-put_zero_elements
 decreases-put_zero_elements l = 2 * l.depth + 1
 
-abbrev pub invariant-put_zero_elements-loop-elements : goal.invariant-put_zero_elements-loop-elements
-invariant-put_zero_elements-loop-elements l = (length l.out ≡ length l.initial.out) × ((t : Ty) (e : ℕ) → Stands l.depth l.ty l.at t e → EachLeft t e l.n l.initial.out l.to l.end l.p l.elements l.out)
-
-abbrev pub decreases-put_zero_elements-loop-elements : goal.decreases-put_zero_elements-loop-elements
-decreases-put_zero_elements-loop-elements l = l.elements
+abbrev pub invariant-put_zero_elements-loop-element : goal.invariant-put_zero_elements-loop-element
+invariant-put_zero_elements-loop-element l =
+    (t : Ty) (e : ℕ) → Stands l.depth l.ty l.at t e → EachLeft t e l.n l.initial.out l.to l.end l.p l._element l.out
 
 abbrev pub decreases-put_zero_members : goal.decreases-put_zero_members
 decreases-put_zero_members l = 2 * l.depth + 1
 
-abbrev pub invariant-put_zero_members-loop-members : goal.invariant-put_zero_members-loop-members
-invariant-put_zero_members-loop-members l = (length l.out ≡ length l.initial.out) × ((m : Tys) (e : ℕ) → StandAll l.depth l.ty l.at l.n m e → AllLeft l.depth l.ty m e l.initial.out l.to l.i l.p l.members l.out)
-
-abbrev pub decreases-put_zero_members-loop-members : goal.decreases-put_zero_members-loop-members
-decreases-put_zero_members-loop-members l = l.members
+abbrev pub invariant-put_zero_members-loop-member : goal.invariant-put_zero_members-loop-member
+invariant-put_zero_members-loop-member l =
+    (m : Tys) (e : ℕ) → StandAll l.depth l.ty l.at l.n m e → AllLeft l.depth l.ty m e l.n l.initial.out l.to l.i l.p l._member l.out
 
 abbrev pub decreases-write_zero : goal.decreases-write_zero
 decreases-write_zero l = 2 * l.depth

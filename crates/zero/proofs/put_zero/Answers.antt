@@ -5,6 +5,3 @@ use Rattle.zero.proofs.put_zero.Goals as goal
 
 pub put_literal-requires : goal.put_literal-requires
 put_literal-requires c = omega (arith, c.requires, literal_long c.args.k 0)
-
-pub returns : goal.returns
-returns c = rw c.zero_bits.ensures at c.put_literal.ensures
