@@ -40,6 +40,13 @@ PartOf s i r = (t : Ty) (e : ℕ) → Stands 15 s i t e → Passes 12 (part_of t
 abbrev pub PartsOf : List ℕ → Bool → Type 0
 PartsOf s r = (l : List Ty) → TypeRow s 0 l → Passes 12 (all part_of l) r
 
+-- a test of the places where types stand says whether the type there passes the rule f, which refuses with 12
+abbrev pub Tests : (ℕ → Bool → Type 0) → List ℕ → (Ty → Result Kind) → Type 0
+Tests test s f = (i : ℕ) (t : Ty) (e : ℕ) (b : Bool) → Stands 15 s i t e → test i b → Passes 12 (f t) b
+
+abbrev pub EachPasses : (ℕ → Bool → Type 0) → List ℕ → Bool → Type 0
+EachPasses test s r = (f : Ty → Result Kind) (l : List Ty) → Tests test s f → TypeRow s 0 l → Passes 12 (all f l) r
+
 abbrev pub TotalIs : List ℕ → ℕ → Type 0
 TotalIs s r = (l : List Ty) → TypeRow s 0 l → r ≡ total l
 

@@ -5,10 +5,19 @@ ghost use Rattle.std.specs.Prelude.{length};
 ghost use Rattle.ty.specs.Stands.{Standing, Ends};
 ghost use Rattle.shape.specs.TypeRows.{SomeTypeRow};
 ghost use Rattle.arg_types.specs.Components.{ComponentKind, ComponentCount, PartTo, PartsTo, PartOf, PartsOf, TotalIs, MeetPart};
-ghost use Rattle.arg_types.specs.Components.{SomeParts, CommonKind};
-ghost use Rattle.arg_types.specs.Given.{ConvertsAt, TypesConvert, SomeMembers, MemberTypesConvert};
+ghost use Rattle.arg_types.specs.Components.{EachPasses, SomeParts, CommonKind};
+ghost use Rattle.arg_types.specs.Given.{SomeGiven, ConvertsAt, TypesConvert, SomeMembers, MemberTypesConvert};
+ghost use Rattle.arg_types.specs.Types.{some_given_prop};
 
-use ty::{Head, Limit};
+use ty::{Head, Limit, Type};
+
+// The arguments of typing: records of well-formed types in a row, and how many they are.
+#[derive(Clone, Copy)]
+pub struct Types<'a> {
+    pub bytes: &'a [u8],
+    pub count: usize,
+    pub ghost given: { SomeGiven bytes.now count } by { some_given_prop bytes.now count },
+}
 
 // ---- one of the arguments
 
@@ -42,7 +51,9 @@ fn converts_at(a: &[u8], i: usize, e: usize, b: &[u8], j: usize, f: usize) -> bo
     requires ends_2 { Ends 15 b.now j f }
     ensures { ConvertsAt a.now i e b.now j f result }
 {
-    rank::type_converts(&a[i..e], &b[j..f])
+    let from = Type { bytes: &a[i..e] };
+    let to = Type { bytes: &b[j..f] };
+    rank::type_converts(from, to)
 }
 
 // Whether the type at i brings components that convert to the kind k.
@@ -110,14 +121,15 @@ pub fn member_types_convert(args: &[u8], target: &[u8]) -> bool
     true
 }
 
-// Whether each brings components that convert to the kind k.
-pub fn parts_to(k: u8, args: &[u8]) -> bool
-    requires { SomeTypeRow args.now 0 }
-    ensures { PartsTo k args.now result }
+// Whether each passes the test of the place where it stands.
+fn each_passes<F: Fn(usize) -> bool>(args: &[u8], test: F) -> bool
+    requires some_type_row { SomeTypeRow args.now 0 }
+    requires tested { (i : _) → Standing 15 args.now i → F.pre test i }
+    ensures { EachPasses (F.post test) args.now result }
 {
     let mut i = 0;
     while i < args.len() {
-        if !part_converts(args, i, k) {
+        if !test(i) {
             return false;
         }
         i = shape::end_of_type(args, i, Limit::DEPTH);
@@ -125,19 +137,20 @@ pub fn parts_to(k: u8, args: &[u8]) -> bool
     true
 }
 
+// Whether each brings components that convert to the kind k.
+pub fn parts_to(k: u8, args: &[u8]) -> bool
+    requires { SomeTypeRow args.now 0 }
+    ensures { PartsTo k args.now result }
+{
+    each_passes(args, |i| part_converts(args, i, k))
+}
+
 // Whether each brings components.
 pub fn are_parts(args: &[u8]) -> bool
     requires { SomeTypeRow args.now 0 }
     ensures { PartsOf args.now result }
 {
-    let mut i = 0;
-    while i < args.len() {
-        if !is_part(args, i) {
-            return false;
-        }
-        i = shape::end_of_type(args, i, Limit::DEPTH);
-    }
-    true
+    each_passes(args, |i| is_part(args, i))
 }
 
 // How many components they bring, "a whole number": it doesn't wrap, since each component takes a byte at least.

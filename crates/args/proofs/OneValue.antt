@@ -6,7 +6,7 @@ use mathlib.Core.Bool.{◌&&◌}
 use Prim.Native.Nat.{ℕ, ◌+◌, ◌≤◌, ◌<◌}
 use native.Mathlib.Omega.{arith}
 use lib.Dec.{T, leb, leb→le}
-use lib.ListN.{length}
+use lib.ListN.{length, take}
 use lib.Seq.{drop-length}
 use Rattle.meaning.specs.Trees.{Ty, Val, type_of, depth, val_len}
 use Rattle.meaning.specs.Records.{ty_bytes, val_bytes, shaped_ty, shaped_val, good_within, good_ty, good_val}
@@ -16,12 +16,13 @@ use Rattle.laws.proofs.Same.{both}
 use Rattle.laws.proofs.Sound.{Bytes}
 use Rattle.laws.proofs.Exact.{val_exact}
 use Rattle.laws.proofs.Length.{val_len_lem}
-use Rattle.ty.specs.Stands.{Stands}
+use Rattle.ty.specs.Stands.{Whole}
 use Rattle.inst.specs.Values.{Typed}
 use Rattle.derive.specs.Derives as derives
 use Rattle.derive.proofs.Typings.{same_typed}
 use Rattle.args.proofs.Rest.{within_of}
 use Rattle.ty.proofs.Places.{put_stands}
+use Rattle.ty.proofs.FrontOfBuffer.{front_whole}
 use Rattle.record.specs.Values.{HasVal}
 use Rattle.args.specs.OneValue.{OneValue, Found}
 
@@ -65,7 +66,7 @@ module _ {s : List ℕ} {v : Val} (x : OneValue s v) where
 -- ---- what was derived
 
 module _ {s : List ℕ} (ty : List ℕ) {ty' : List ℕ} (l : length ty ≡ 4096) where
-  pub derived_one : {e q : ℕ} → derives.Found 15 s 0 ty 0 e q ty' → e ≡ length s → Found s q ty'
+  pub derived_one : {e q : ℕ} → derives.Found 15 s 0 ty 0 e q ty' → e ≡ length s → Found s (take q ty')
   unfolding good_val good_ty
   derived_one {e} {q} f h =
       let x = f.typed.fits in
@@ -80,8 +81,8 @@ module _ {s : List ℕ} (ty : List ℕ) {ty' : List ℕ} (l : length ty ≡ 4096
           good = both (shaped_val v)
               (good_within 15 4096 (type_of v)) x.shaped g;
         };
-        stands = subst (λ (t : Ty). Stands 15 ty' 0 t q) (sym x.type)
-            (put_stands f.type f.typed.shaped f.typed.deep w.put w.room);
+        whole = subst (Whole (take q ty')) (sym x.type)
+            (front_whole (put_stands f.type f.typed.shaped f.typed.deep w.put w.room));
       }
 
   -- the value that stands there ends where it ends

@@ -268,10 +268,6 @@ arg_is Qa t = refl
 arg_is (Qv n) t = refl
 arg_is (Qm c r) t = refl
 
-pub bytes_most : (b : Bool) → bytes_for b ≤ 4096
-bytes_most true = omega arith
-bytes_most false = omega arith
-
 pub bytes_least : (b : Bool) → 7 ≤ bytes_for b
 bytes_least true = omega arith
 bytes_least false = omega arith

@@ -1,3 +1,4 @@
 pub mod Counts
 pub mod Row
 pub mod OneValue
+pub mod Values

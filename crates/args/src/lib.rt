@@ -6,12 +6,22 @@ ghost use Rattle.meaning.specs.Trees as trees;
 ghost use Rattle.meaning.specs.Records.{val_bytes, ty_bytes};
 ghost use Rattle.meaning.specs.Read.{read_vals, read_tys};
 ghost use Rattle.ty.specs.Targets.{seen};
-ghost use Rattle.args.specs.Counts.{is_tight, depth_for, bytes_for, args_of, Rests, Left, ValueArg, TypeArg, Counts, Flat, FlatLeft};
+ghost use Rattle.args.specs.Counts.{is_qa, is_tight, depth_for, bytes_for, args_of, Rests, Left, ValueArg, TypeArg, Counts};
+ghost use Rattle.args.specs.Counts.{Flat, FlatLeft};
 ghost use Rattle.args.specs.OneValue.{Singles};
-ghost use Rattle.args.specs.Row.{SomeArg, HeadOf, Skips, Types};
+ghost use Rattle.args.specs.Row.{SomeArg, SomeGiven, HeadOf, Skips, Types};
+ghost use Rattle.args.specs.Values.{some_given_prop};
 
 use kind::Scalar;
-use ty::{Head, Limit, Target};
+use ty::{Head, Limit, Size, Target, Type};
+
+// The arguments of a call: records of well-formed values in a row, and how many they are.
+#[derive(Clone, Copy)]
+pub struct Values<'a> {
+    pub bytes: &'a [u8],
+    pub count: usize,
+    pub ghost given: { SomeGiven bytes.now count } by { some_given_prop bytes.now count },
+}
 
 // ---- how many
 
@@ -22,23 +32,37 @@ struct Counted {
     count: usize,
 }
 
-// The limits on an argument's type.
-fn depth_for(tight: bool) -> u8
-    ensures { result ≡ depth_for tight }
-{
-    if tight {
-        return Limit::PART_DEPTH;
-    }
-    Limit::DEPTH
+// The limits on an argument's type: its depth, and the bytes of its record.
+#[derive(Clone, Copy)]
+struct Bounds {
+    depth: u8,
+    bytes: usize,
+    ghost fit: { (2 ≤ depth) × (7 ≤ bytes) × (bytes ≤ 4096) },
 }
 
-fn bytes_for(tight: bool) -> usize
-    ensures { result ≡ bytes_for tight }
+// Whether the target is `Qa`, whose limits are tighter.
+fn is_tight(found: Target) -> bool
+    ensures { result ≡ is_tight found }
 {
-    if tight {
-        return Limit::ELEMENT_BYTES;
+    matches!(found, Target::Array)
+}
+
+// The limits of that target.
+#[tactic(auto, using(crate::proofs::Rest::tight_is))]
+fn bounds_for(found: Target) -> Bounds
+    ensures depth { (g : trees.Target) → found ≡ seen g → result.depth ≡ depth_for (is_qa g) }
+    ensures bytes { (g : trees.Target) → found ≡ seen g → result.bytes ≡ bytes_for (is_qa g) }
+{
+    if is_tight(found) {
+        return Bounds {
+            depth: Limit::PART_DEPTH,
+            bytes: Limit::ELEMENT_BYTES,
+        };
     }
-    Limit::TYPE_BYTES
+    Bounds {
+        depth: Limit::DEPTH,
+        bytes: Limit::TYPE_BYTES,
+    }
 }
 
 // The end of the literal that stands at `at`, if one does. Most arguments are literals, and the third byte of one is its
@@ -64,7 +88,13 @@ fn other_flat_end(s: &[u8], at: usize) -> Option<usize>
 {
     match derive::value_front(s, at, 2)? {
         Head::Vector(n, k) => inst::vector_as(s, at, n, k),
-        Head::Matrix(c, r, k) => inst::matrix_as(s, at, c, r, k),
+        Head::Matrix(c, r, k) => {
+            let size = Size {
+                columns: c,
+                rows: r,
+            };
+            inst::matrix_as(s, at, size, k)
+        }
         _ => None,
     }
 }
@@ -97,27 +127,20 @@ fn flat_args(s: &[u8]) -> Counted
     Counted { end: i, count: n }
 }
 
-// Counts the values that s is, of which `before` end at `from`, each with a type of that depth and that many bytes at
-// most. The types are derived into `ty`.
-fn count_values(
-    s: &[u8],
-    from: usize,
-    before: usize,
-    ty: &mut [u8],
-    depth: u8,
-    most: usize,
-) -> Option<usize>
-    requires { (most ≤ length ty.old) × Left val_bytes (ValueArg depth most) s.now from before }
-    ensures { Counts (Rests val_bytes (ValueArg depth most) s.now 0) result }
+// Counts the values that s is, each with a type within the bounds, of which some were counted before. The types are
+// derived into `ty`.
+fn count_values(s: &[u8], before: Counted, ty: &mut [u8], most: Bounds) -> Option<usize>
+    requires { (length ty.old ≡ 4096) × Left val_bytes (ValueArg most.depth most.bytes) s.now before.end before.count }
+    ensures { Counts (Rests val_bytes (ValueArg most.depth most.bytes) s.now 0) result }
 {
-    let mut i = from;
-    let mut n = before;
+    let mut i = before.end;
+    let mut n = before.count;
     while i < s.len() {
         if n == Limit::ARGUMENTS {
             return None;
         }
-        let (e, q) = derive::derive(s, i, ty, 0, depth)?;
-        if q > most {
+        let (e, q) = derive::derive(s, i, ty, 0, most.depth)?;
+        if q > most.bytes {
             return None;
         }
         i = e;
@@ -127,17 +150,17 @@ fn count_values(
 }
 
 // Counts the rest of the arguments, with room for their types.
-fn other_args(s: &[u8], from: usize, before: usize, depth: u8, most: usize) -> Option<usize>
-    requires { (most ≤ 4096) × Left val_bytes (ValueArg depth most) s.now from before }
-    ensures { Counts (Rests val_bytes (ValueArg depth most) s.now 0) result }
+fn other_args(s: &[u8], before: Counted, most: Bounds) -> Option<usize>
+    requires { Left val_bytes (ValueArg most.depth most.bytes) s.now before.end before.count }
+    ensures { Counts (Rests val_bytes (ValueArg most.depth most.bytes) s.now 0) result }
 {
     let mut ty = [0u8; Limit::TYPE_BYTES];
-    count_values(s, from, before, &mut ty, depth, most)
+    count_values(s, before, &mut ty, most)
 }
 
 // Counts the types that s is. A type's end is taken by `let else`: `?` costs two more instructions for each type here.
-fn count_types(s: &[u8], depth: u8, most: usize) -> Option<usize>
-    ensures { Counts (Rests ty_bytes (TypeArg depth most) s.now 0) result }
+fn count_types(s: &[u8], most: Bounds) -> Option<usize>
+    ensures { Counts (Rests ty_bytes (TypeArg most.depth most.bytes) s.now 0) result }
 {
     let mut i = 0;
     let mut n: usize = 0;
@@ -145,23 +168,16 @@ fn count_types(s: &[u8], depth: u8, most: usize) -> Option<usize>
         if n >= Limit::ARGUMENTS {
             return None;
         }
-        let Some(e) = ty::type_end(s, i, depth) else {
+        let Some(e) = ty::type_end(s, i, most.depth) else {
             return None;
         };
-        if e - i > most {
+        if e - i > most.bytes {
             return None;
         }
         i = e;
         n += 1;
     }
     Some(n)
-}
-
-// Whether the target is `Qa`, whose arguments have tighter limits.
-fn is_tight(found: Target) -> bool
-    ensures { result ≡ is_tight found }
-{
-    matches!(found, Target::Array)
 }
 
 // How many arguments of a build for that target s is.
@@ -172,16 +188,14 @@ pub fn value_args(s: &[u8], found: Target) -> Option<usize>
     if flat.end == s.len() {
         return Some(flat.count);
     }
-    let tight = is_tight(found);
-    other_args(s, flat.end, flat.count, depth_for(tight), bytes_for(tight))
+    other_args(s, flat, bounds_for(found))
 }
 
 // The same of typing, whose arguments are types.
 pub fn type_args(s: &[u8], found: Target) -> Option<usize>
     ensures { (g : trees.Target) → found ≡ seen g → result ≡ args_of (read_tys g s.now) }
 {
-    let tight = is_tight(found);
-    count_types(s, depth_for(tight), bytes_for(tight))
+    count_types(s, bounds_for(found))
 }
 
 // ---- one after another
@@ -246,14 +260,15 @@ pub fn next_type(args: &[u8], i: usize, ty: &mut [u8]) -> Step
 
 // ---- one value alone
 
-// Whether the bytes are one well-formed value, and what its type is.
-pub fn one_value(args: &[u8], ty: &mut [u8]) -> Option<usize>
+// The type of the value that the bytes are, if they are one well-formed value. Its record is written at the front of
+// `ty`.
+pub fn one_value<'t>(args: &[u8], ty: &'t mut [u8]) -> Option<Type<'t>>
     requires { length ty.old ≡ 4096 }
-    ensures { Singles args.now result ty.new }
+    ensures { Singles args.now result }
 {
     let (e, q) = derive::derive(args, 0, ty, 0, Limit::DEPTH)?;
     if e != args.len() {
         return None;
     }
-    Some(q)
+    Some(Type { bytes: &ty[..q] })
 }

@@ -4,7 +4,6 @@ use mathlib.Core.Option.{Option, none, some}
 use mathlib.Core.List.{List, [], ◌∷◌, ◌++◌}
 use mathlib.Core.Bool.{Bool, true, false, ◌&&◌}
 use Prim.Native.Nat.{ℕ, ◌≤◌, ◌<◌}
-use native.Mathlib.Omega.{arith}
 use lib.Dec.{T}
 use lib.ListN.{length}
 use Rattle.meaning.specs.Scalars.{some?}
@@ -17,8 +16,9 @@ use Rattle.laws.proofs.Sound.{on_some, on_if, some_inj, no_some}
 use Rattle.ty.specs.Stands.{Standing}
 use Rattle.record.specs.Bytes.{Takes, Put}
 use Rattle.conv.specs.Values.{ValueTo, ValueRoom, ValuePut}
+use Rattle.conv.proofs.Slices.{part}
 use Rattle.shape.specs.TypeRows.{EndsAt}
-use Rattle.record.proofs.Left.{Left, left_room, left_on, left_end, left_same}
+use Rattle.record.proofs.Left.{Left, left_room, left_on, left_end}
 use Rattle.args.specs.Row.{SomeArg, Skips}
 use Rattle.args.proofs.ArgumentRows.{row_none}
 use Rattle.array.specs.Members.{Pairs, SomePair, MemberIs}
@@ -120,11 +120,14 @@ module _ {target : List ℕ} {at : ℕ} {args : List ℕ} {i : ℕ} {out₀ : Li
       pub put_less : i < e
       put_less = pairs_first g h λ t m v l x q. pair_more x (s v l x.row)
 
+      pub put_within : e ≤ length args
+      put_within = pairs_first g h λ t m v l x q. (s v l x.row).rest.within
+
       to_into : {t : Ty} {m : Tys} {v w : Val} {l : List Val} → Pairs target at args i (t ▸ m) (v ∷ l) → conv_val t v ≡ some w
-          → ValueTo 14 target at args i e t v
+          → ValueTo 14 target at (part args i e) 0 (length (part args i e)) t v
       to_into {t} {m} {v} {w} {l} x f = pair_to x (s v l x.row) (goes_type t v f)
 
-      pub put_room : Takes out₀ to (joined val_bytes ws) → ValueRoom 14 target at args i e out p
+      pub put_room : Takes out₀ to (joined val_bytes ws) → ValueRoom 14 target at (part args i e) 0 (length (part args i e)) out p
       put_room a = pairs_first g h λ t m v l x q.
           let y = into_of t m v l q.goes in
           record {
@@ -134,10 +137,10 @@ module _ {target : List ℕ} {at : ℕ} {args : List ℕ} {i : ℕ} {out₀ : Li
             asked = to_into x y.head;
             goes = y.head;
             room = left_room q.rest
-                (val_bytes y.into) (joined val_bytes y.others) y.is (omega (arith, a, left_same q.rest));
+                (val_bytes y.into) (joined val_bytes y.others) y.is a;
           }
 
-      pub put_on : {a r : ℕ} {out' : List ℕ} → ValuePut 14 target at args i e out p r out' → EndsAt 14 target at a
+      pub put_on : {a r : ℕ} {out' : List ℕ} → ValuePut 14 target at (part args i e) 0 (length (part args i e)) out p r out' → EndsAt 14 target at a
           → PutLeft target a args e out₀ to ws r out'
       put_on z f = pairs_first g h λ t m v l x q.
           let y = into_of t m v l q.goes in

@@ -14,6 +14,7 @@ use Rattle.laws.proofs.AgreeConv.{conv_not}
 use Rattle.ty.specs.Stands.{Stands, StandAll, Standing, Whole}
 use Rattle.ty.proofs.Heads.{first_is}
 use Rattle.conv.specs.Values.{ValueTo, ValueFits}
+use Rattle.conv.proofs.Slices.{part, val_part}
 use Rattle.record.specs.Values.{HasVal}
 use Rattle.shape.specs.TypeRows.{EndsAt}
 use Rattle.args.specs.Row.{SomeArg, NextIs}
@@ -55,15 +56,15 @@ module _ {target : List ℕ} {at : ℕ} {args : List ℕ} {i : ℕ} {t : Ty} {m 
     }
 
   -- the argument to the member's type, where its type converts
-  pub pair_to : {e : ℕ} → NextIs args i v l e → T (converts (type_of v) t) → ValueTo 14 target at args i e t v
+  pub pair_to : {e : ℕ} → NextIs args i v l e → T (converts (type_of v) t) → ValueTo 14 target at (part args i e) 0 (length (part args i e)) t v
   pair_to {e} n c =
       record {
         part = t;
         end = at + length (ty_bytes t);
         stands = both.0;
         bottom = refl;
-        has = subst (λ (p : ℕ). HasVal args i p v)
-            (sym n.end) (row_has x.row);
+        has = val_part (subst (λ (p : ℕ). HasVal args i p v)
+            (sym n.end) (row_has x.row));
         converts = c;
       }
 
@@ -79,10 +80,10 @@ module _ {target : List ℕ} {at : ℕ} {args : List ℕ} {i : ℕ} {t : Ty} {m 
     type_no h = conv_not t v (sym type_is ∙ h)
 
     module _ (h : a ≡ true) {e : ℕ} (y : NextIs args i v l e) where
-      pub fits_asked : ValueTo 14 target at args i e t v
+      pub fits_asked : ValueTo 14 target at (part args i e) 0 (length (part args i e)) t v
       fits_asked = pair_to y (subst T (sym h ∙ type_is) tt)
 
-      module _ {b : Bool} (g : ValueFits 14 target at args i e b) where
+      module _ {b : Bool} (g : ValueFits 14 target at (part args i e) 0 (length (part args i e)) b) where
         pub fits_no : b ≡ false → conv_val t v ≡ none
         fits_no k = none_of (conv_val t v) (sym k ∙ g t v fits_asked)
 

@@ -32,12 +32,11 @@ ElementsTold args count d ty at out r out' =
 
 -- ---- a counted array
 
-pub record SomeArray (target args : List ℕ) (count : ℕ) : Type 0 where
+-- the target is its type, and there is an argument at least
+pub record SomeArray (target : List ℕ) (count : ℕ) : Type 0 where
   pub number : ℕ
   pub type : Ty
-  pub values : List Val
   pub whole : Whole target (Ta number type)
-  pub given : Given args count values
   pub least : 1 ≤ count
 
 abbrev pub ArrayTold : List ℕ → List ℕ → ℕ → List ℕ → Written → List ℕ → Type 0
@@ -46,11 +45,9 @@ ArrayTold target args count out r out' =
 
 -- ---- a runtime-sized array: a `Tr` record, whose element type stands after the mark
 
-pub record SomeRuntime (target args : List ℕ) (count : ℕ) : Type 0 where
+pub record SomeRuntime (target : List ℕ) (count : ℕ) : Type 0 where
   pub type : Ty
-  pub values : List Val
   pub whole : Stands 14 target 2 type (length target)
-  pub given : Given args count values
   pub least : 1 ≤ count
 
 abbrev pub RuntimeTold : List ℕ → List ℕ → ℕ → List ℕ → Written → List ℕ → Type 0

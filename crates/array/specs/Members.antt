@@ -83,14 +83,7 @@ pub record Struct (target args : List ℕ) (i : ℕ) (m : Tys) (l : List Val) : 
   pub whole : Whole target (Tu i m)
   pub row : Row args 0 l
 
--- and there are as many of them as is said
-pub record SomeStruct (target args : List ℕ) (count : ℕ) : Type 0 where
-  pub identity : ℕ
-  pub types : Tys
-  pub values : List Val
-  pub whole : Whole target (Tu identity types)
-  pub given : Given args count values
-
+-- the struct of its arguments, as many as are said
 abbrev pub StructTold : List ℕ → List ℕ → ℕ → List ℕ → Written → List ℕ → Type 0
 StructTold target args count out r out' = (i : ℕ) (m : Tys) (l : List Val) → Whole target (Tu i m) → Given args count l
     → Builds (struct_of i m l) out r out'

@@ -47,20 +47,18 @@ module _ (s : Stage) (target : List ℕ) (l : List Val) where
   unfolding build_target
   target_builds e = rw e
 
--- ---- the sides of a vector's and of a matrix's type
+-- ---- the length of a vector's type, and the kind of a matrix's
 
 module _ {target : List ℕ} {t : Ty} (w : Whole target t) where
   pub vector_side : {n : ℕ} {k : Kind} → t ≡ Tv n k → T (side n)
   unfolding shaped_ty
   vector_side e = subst (λ (u : Ty). T (shaped_ty u)) e w.shaped
 
-  -- and its kind is a float's
-  pub matrix_sides : {c r n : ℕ} {k : Kind} → t ≡ Tm c r k → n ≡ kind_no k → T (side c) × T (side r) × T (float_number n)
+  pub matrix_float : {c r n : ℕ} {k : Kind} → t ≡ Tm c r k → n ≡ kind_no k → T (float_number n)
   unfolding shaped_ty
-  matrix_sides {c} {r} {n} {k} e q =
+  matrix_float {c} {r} {k = k} e q =
       let g : T (side c && side r && is_float k) = subst (λ (u : Ty). T (shaped_ty u)) e w.shaped in
-      let h = and_l (side c && side r) (is_float k) g in
-      (and_l (side c) (side r) h, and_r (side c) (side r) h, rw (q, float_number_lem k) (and_r (side c && side r) (is_float k) g))
+      rw (q, float_number_lem k) (and_r (side c && side r) (is_float k) g)
 
 -- ---- the arguments
 

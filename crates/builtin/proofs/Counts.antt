@@ -10,10 +10,8 @@ use Rattle.meaning.specs.Scalars.{Stage}
 use Rattle.meaning.specs.Trees.{Ty, Ts, Ta, Tu, Tys, Tr, Qa, Val, Of}
 use Rattle.meaning.specs.Answers.{Result, no}
 use Rattle.meaning.specs.Build.{build, build_one, build_more, array_of, struct_of, runtime_of, qa_of}
-use Rattle.args.specs.Row.{Row, Given, SomeGiven}
+use Rattle.args.specs.Row.{Row, Given}
 use Rattle.error.specs.Told.{Builds}
-use Rattle.scalar.specs.Made.{OneArg}
-use Rattle.matrix.specs.MatrixRules as matrices
 use Rattle.error.specs.Told.{Written}
 
 module _ (P : List Val → Type 0) {args : List ℕ} {n : ℕ} (l : List Val) (g : Given args n l) where
@@ -52,15 +50,6 @@ module _ (f : List Val → Result Val) {args : List ℕ} {n : ℕ} (l : List Val
   pub builds_more : 2 ≤ n → ((v u : Val) (m : List Val) → Given args n (v ∷ u ∷ m) → Builds (f (v ∷ u ∷ m)) out r out')
       → Builds (f l) out r out'
   builds_more h b = on_more (λ m. Builds (f m) out r out') l g h b
-
--- the one argument
-pub one_given : {args : List ℕ} {n : ℕ} → SomeGiven args n → n ≡ 1 → OneArg args
-one_given {args} x h = on_one (λ m. OneArg args) x.values x.given h (λ v w. record { value = v; row = w })
-
--- at least one, as matrices ask for them
-pub more_given : {args : List ℕ} {n : ℕ} (l : List Val) → Given args n l → 1 ≤ n → matrices.SomeFirst args n
-more_given [] g h = absurd (omega (arith, g.count))
-more_given (v ∷ l) g h = record { value = v; others = l; row = g.row; size = g.count }
 
 -- a scalar with more: 4 for an abstract one, else 5
 pub more_abstract : (k : Kind) → is_abstract k ≡ true → (v : Val) (l : List Val) → build_more (Ts k) v l ≡ no 4

@@ -11,36 +11,37 @@ use Rattle.literal.specs.LiteralAnswers.{rules_of}
 use Rattle.literal.specs.declared.Rules.{Rules}
 use Rattle.ty.specs.Stands.{Stands, Whole}
 use Rattle.args.specs.Row.{Given}
+use Rattle.args.specs.declared.Values.{Values}
 use Rattle.error.specs.Told.{Told, Builds}
 use Rattle.error.specs.Told.{Written}
 
 -- ---- the target, once it is read
 
 -- what is built of the arguments for a target
-abbrev pub BuildsOf : Stage → Target → List ℕ → ℕ → List ℕ → Written → List ℕ → Type 0
-BuildsOf s g args n out r out' = (l : List Val) → Given args n l → Builds (build s g l) out r out'
+abbrev pub BuildsOf : Stage → Target → Values → List ℕ → Written → List ℕ → Type 0
+BuildsOf s g args out r out' = (l : List Val) → Given args.bytes.now args.count l → Builds (build s g l) out r out'
 
 -- for a type whose record the target is
-abbrev pub TypeBuilt : Rules → List ℕ → List ℕ → ℕ → List ℕ → Written → List ℕ → Type 0
-TypeBuilt rules target args n out r out' = (s : Stage) (t : Ty) → rules ≡ rules_of s → Whole target t → BuildsOf s (Of t) args n out r out'
+abbrev pub TypeBuilt : Rules → List ℕ → Values → List ℕ → Written → List ℕ → Type 0
+TypeBuilt rules target args out r out' = (s : Stage) (t : Ty) → rules ≡ rules_of s → Whole target t → BuildsOf s (Of t) args out r out'
 
 -- and for a scalar, a vector or a matrix, of the kind whose number k is
-abbrev pub LeafBuilt : (Kind → Ty) → Rules → ℕ → List ℕ → ℕ → List ℕ → Written → List ℕ → Type 0
-LeafBuilt f rules k args n out r out' = (s : Stage) (j : Kind) → rules ≡ rules_of s → k ≡ kind_no j → BuildsOf s (Of (f j)) args n out r out'
+abbrev pub LeafBuilt : (Kind → Ty) → Rules → ℕ → Values → List ℕ → Written → List ℕ → Type 0
+LeafBuilt f rules k args out r out' = (s : Stage) (j : Kind) → rules ≡ rules_of s → k ≡ kind_no j → BuildsOf s (Of (f j)) args out r out'
 
 -- for a runtime-sized array, and for a shape, whose answer is the same at every stage
-abbrev pub RuntimeBuilt : List ℕ → List ℕ → ℕ → List ℕ → Written → List ℕ → Type 0
-RuntimeBuilt target args n out r out' = (s : Stage) (t : Ty) → Stands 14 target 2 t (length target) → BuildsOf s (Tr t) args n out r out'
+abbrev pub RuntimeBuilt : List ℕ → Values → List ℕ → Written → List ℕ → Type 0
+RuntimeBuilt target args out r out' = (s : Stage) (t : Ty) → Stands 14 target 2 t (length target) → BuildsOf s (Tr t) args out r out'
 
-abbrev pub ShapeBuilt : Target → List ℕ → ℕ → List ℕ → Written → List ℕ → Type 0
-ShapeBuilt g args n out r out' = (s : Stage) → BuildsOf s g args n out r out'
+abbrev pub ShapeBuilt : Target → Values → List ℕ → Written → List ℕ → Type 0
+ShapeBuilt g args out r out' = (s : Stage) → BuildsOf s g args out r out'
 
 -- for the target that the bytes are: "1 bad target record"
 unfoldable pub build_target : Stage → List ℕ → List Val → Result Val
 build_target s target l = or_no 1 (read_target target) >>= λ g. build s g l
 
-abbrev pub TargetBuilt : Rules → List ℕ → List ℕ → ℕ → List ℕ → Written → List ℕ → Type 0
-TargetBuilt rules target args n out r out' = (s : Stage) (l : List Val) → rules ≡ rules_of s → Given args n l
+abbrev pub TargetBuilt : Rules → List ℕ → Values → List ℕ → Written → List ℕ → Type 0
+TargetBuilt rules target args out r out' = (s : Stage) (l : List Val) → rules ≡ rules_of s → Given args.bytes.now args.count l
     → Builds (build_target s target l) out r out'
 
 -- ---- before they are read

@@ -5,36 +5,29 @@ ghost use Rattle.std.specs.Prelude.{◌≤◌, T, length};
 ghost use Rattle.meaning.specs.Trees.{Ts, Tv, Tm, Qa, Qv, Qm};
 ghost use Rattle.meaning.specs.Records.{side};
 ghost use Rattle.meaning.specs.Entries.{build_answer};
-ghost use Rattle.ty.specs.TypeFronts.{float_number};
 ghost use Rattle.ty.specs.Targets.{RuntimeIs, Meant};
-ghost use Rattle.args.specs.Row.{SomeGiven};
-ghost use Rattle.ty.specs.Stands.{OneType};
 ghost use Rattle.error.specs.Told.{Told};
-ghost use Rattle.scalar.specs.Made.{SomeKind};
 ghost use Rattle.builtin.specs.Calls.{TypeBuilt, LeafBuilt, RuntimeBuilt, ShapeBuilt, TargetBuilt, TargetAnswers};
 
+use args::Values;
 use error::Refusal;
 use kind::Scalar;
 use literal::Rules;
-use ty::{Head, Limit, Target};
+use matrix::FloatKind;
+use scalar::{Kind, Value};
+use ty::{Head, Limit, Size, Target, Type};
 
 // ---- the arguments are read: at least one, or none
 
 // A scalar type: 4 for an abstract one, 5 for two arguments or more.
-fn scalar_ctor(
-    rules: Rules,
-    k: u8,
-    args: &[u8],
-    count: usize,
-    out: &mut [u8],
-) -> Result<usize, Refusal>
-    requires { SomeKind k × (1 ≤ count) × SomeGiven args.now count }
-    ensures { LeafBuilt Ts rules k args.now count out.old result out.new }
+fn scalar_ctor(rules: Rules, kind: Kind, args: Values, out: &mut [u8]) -> Result<usize, Refusal>
+    requires { 1 ≤ args.count }
+    ensures { LeafBuilt Ts rules kind.number args.entry out.old result out.new }
 {
-    if count == 1 {
-        return scalar::scalar(rules, k, args, out);
+    if args.count == 1 {
+        return scalar::scalar(rules, kind, Value { bytes: args.bytes }, out);
     }
-    let scalar = Scalar { kind: k };
+    let scalar = Scalar { kind: kind.number };
     if scalar.is_abstract() {
         return Err(Refusal::NotConstructible);
     }
@@ -42,113 +35,101 @@ fn scalar_ctor(
 }
 
 // A vector type.
-fn vec_ctor(
-    rules: Rules,
-    n: u8,
-    k: u8,
-    args: &[u8],
-    count: usize,
-    out: &mut [u8],
-) -> Result<usize, Refusal>
-    requires { T (side n) × SomeKind k × (1 ≤ count) × SomeGiven args.now count }
-    ensures { LeafBuilt (Tv n) rules k args.now count out.old result out.new }
+fn vec_ctor(rules: Rules, n: u8, kind: Kind, args: Values, out: &mut [u8]) -> Result<usize, Refusal>
+    requires { T (side n) × (1 ≤ args.count) }
+    ensures { LeafBuilt (Tv n) rules kind.number args.entry out.old result out.new }
 {
-    if count == 1 {
-        return vector::vec_one(rules, n, k, args, out);
+    if args.count == 1 {
+        return vector::vec_one(rules, n, kind, Value { bytes: args.bytes }, out);
     }
-    vector::vec_parts(n, k, args, out)
+    vector::vec_parts(n, kind, args.bytes, out)
 }
 
 // A matrix type.
 fn mat_ctor(
     rules: Rules,
-    c: u8,
-    r: u8,
-    k: u8,
-    args: &[u8],
-    count: usize,
+    size: Size,
+    kind: FloatKind,
+    args: Values,
     out: &mut [u8],
 ) -> Result<usize, Refusal>
-    requires { T (side c) × T (side r) × T (float_number k) × (1 ≤ count) × SomeGiven args.now count }
-    ensures { LeafBuilt (Tm c r) rules k args.now count out.old result out.new }
+    requires { 1 ≤ args.count }
+    ensures { LeafBuilt (Tm size.columns size.rows) rules kind.number args.entry out.old result out.new }
 {
-    if count == 1 {
-        return matrix::mat_one(rules, c, r, k, args, out);
+    if args.count == 1 {
+        return matrix::mat_one(rules, size, kind, Value { bytes: args.bytes }, out);
     }
-    matrix::mat_parts(c, r, k, args, count, out)
+    matrix::mat_parts(size, kind, args, out)
 }
 
 // A type whose record the target is: "no arguments with a type record: the zero value".
-fn type_given(
-    rules: Rules,
-    target: &[u8],
-    args: &[u8],
-    count: usize,
-    out: &mut [u8],
-) -> Result<usize, Refusal>
-    requires { OneType target.now × SomeGiven args.now count }
-    ensures { TypeBuilt rules target.now args.now count out.old result out.new }
+fn type_given(rules: Rules, target: Type, args: Values, out: &mut [u8]) -> Result<usize, Refusal>
+    ensures { TypeBuilt rules target.entry.bytes.now args.entry out.old result out.new }
 {
-    if count == 0 {
+    if args.count == 0 {
         return zero::zero_value(target, out);
     }
-    match ty::head_at(target, 0, Limit::DEPTH) {
-        Head::Scalar(k) => scalar_ctor(rules, k, args, count, out),
-        Head::Vector(n, k) => vec_ctor(rules, n, k, args, count, out),
-        Head::Matrix(c, r, k) => mat_ctor(rules, c, r, k, args, count, out),
-        Head::Array(_) => array::array_of(target, args, count, out),
-        Head::Struct(_, _) => array::struct_of(target, args, count, out),
+    match ty::head_at(target.bytes, 0, Limit::DEPTH) {
+        Head::Scalar(k) => scalar_ctor(rules, Kind { number: k }, args, out),
+        Head::Vector(n, k) => vec_ctor(rules, n, Kind { number: k }, args, out),
+        Head::Matrix(c, r, k) => {
+            let size = Size {
+                columns: c,
+                rows: r,
+            };
+            mat_ctor(rules, size, FloatKind { number: k }, args, out)
+        }
+        Head::Array(_) => array::array_of(target, args, out),
+        Head::Struct(_, _) => array::struct_of(target, args, out),
     }
 }
 
 // A runtime-sized array: "4 .. building `Tr` with none".
-fn runtime_given(target: &[u8], args: &[u8], count: usize, out: &mut [u8]) -> Result<usize, Refusal>
-    requires { RuntimeIs target.now × SomeGiven args.now count }
-    ensures { RuntimeBuilt target.now args.now count out.old result out.new }
+fn runtime_given(target: &[u8], args: Values, out: &mut [u8]) -> Result<usize, Refusal>
+    requires { RuntimeIs target.now }
+    ensures { RuntimeBuilt target.now args.entry out.old result out.new }
 {
-    if count == 0 {
+    if args.count == 0 {
         return Err(Refusal::NotConstructible);
     }
-    array::runtime_of(target, args, count, out)
+    array::runtime_of(target, args, out)
 }
 
 // `Qa`: 11 without arguments.
-fn array_given(args: &[u8], count: usize, out: &mut [u8]) -> Result<usize, Refusal>
-    requires { SomeGiven args.now count }
-    ensures { ShapeBuilt Qa args.now count out.old result out.new }
+fn array_given(args: Values, out: &mut [u8]) -> Result<usize, Refusal>
+    ensures { ShapeBuilt Qa args.entry out.old result out.new }
 {
-    if count == 0 {
+    if args.count == 0 {
         return Err(Refusal::ArgumentsNeeded);
     }
-    array::qa_of(args, count, out)
+    array::qa_of(args, out)
 }
 
 // `Qv`: "without arguments: AbstractInt zeros".
-fn vector_given(n: u8, args: &[u8], count: usize, out: &mut [u8]) -> Result<usize, Refusal>
-    requires { T (side n) × SomeGiven args.now count }
-    ensures { ShapeBuilt (Qv n) args.now count out.old result out.new }
+fn vector_given(n: u8, args: Values, out: &mut [u8]) -> Result<usize, Refusal>
+    requires { T (side n) }
+    ensures { ShapeBuilt (Qv n) args.entry out.old result out.new }
 {
-    if count == 0 {
+    if args.count == 0 {
         return zero::zero_vector(n, Scalar::ABSTRACT_INT, out);
     }
-    if count == 1 {
-        return vector::qv_one(n, args, out);
+    if args.count == 1 {
+        return vector::qv_one(n, Value { bytes: args.bytes }, out);
     }
-    vector::qv_parts(n, args, out)
+    vector::qv_parts(n, args.bytes, out)
 }
 
 // `Qm`: 11 without arguments.
-fn matrix_given(c: u8, r: u8, args: &[u8], count: usize, out: &mut [u8]) -> Result<usize, Refusal>
-    requires { T (side c) × T (side r) × SomeGiven args.now count }
-    ensures { ShapeBuilt (Qm c r) args.now count out.old result out.new }
+fn matrix_given(size: Size, args: Values, out: &mut [u8]) -> Result<usize, Refusal>
+    ensures { ShapeBuilt (Qm size.columns size.rows) args.entry out.old result out.new }
 {
-    if count == 0 {
+    if args.count == 0 {
         return Err(Refusal::ArgumentsNeeded);
     }
-    if count == 1 {
-        return matrix::qm_one(c, r, args, out);
+    if args.count == 1 {
+        return matrix::qm_one(size, Value { bytes: args.bytes }, out);
     }
-    matrix::qm_parts(c, r, args, count, out)
+    matrix::qm_parts(size, args, out)
 }
 
 // ---- the target and the arguments are read
@@ -158,19 +139,24 @@ fn target_given(
     rules: Rules,
     found: Target,
     target: &[u8],
-    args: &[u8],
-    count: usize,
+    args: Values,
     out: &mut [u8],
 ) -> Result<usize, Refusal>
-    requires { Meant target.now found × SomeGiven args.now count }
-    ensures { TargetBuilt rules target.now args.now count out.old result out.new }
+    requires { Meant target.now found }
+    ensures { TargetBuilt rules target.now args.entry out.old result out.new }
 {
     match found {
-        Target::Type => type_given(rules, target, args, count, out),
-        Target::Runtime => runtime_given(target, args, count, out),
-        Target::Array => array_given(args, count, out),
-        Target::Vector(n) => vector_given(n, args, count, out),
-        Target::Matrix(c, r) => matrix_given(c, r, args, count, out),
+        Target::Type => type_given(rules, Type { bytes: target }, args, out),
+        Target::Runtime => runtime_given(target, args, out),
+        Target::Array => array_given(args, out),
+        Target::Vector(n) => vector_given(n, args, out),
+        Target::Matrix(c, r) => {
+            let size = Size {
+                columns: c,
+                rows: r,
+            };
+            matrix_given(size, args, out)
+        }
     }
 }
 
@@ -186,7 +172,7 @@ fn target_call(rules: Rules, target: &[u8], args: &[u8], out: &mut [u8]) -> Resu
     let Some(count) = args::value_args(args, found) else {
         return Err(Refusal::BadArgument);
     };
-    target_given(rules, found, target, args, count, out)
+    target_given(rules, found, target, Values { bytes: args, count }, out)
 }
 
 // ---- the entry

@@ -23,6 +23,7 @@ use Rattle.conv.specs.Values.{plain, plains}
 use Rattle.record.proofs.Puts.{put_put}
 use Rattle.record.proofs.Left.{Left, one_less, left_room, left_on, left_end, left_same}
 use Rattle.conv.proofs.Values.{Scan, list_scan}
+use Rattle.conv.proofs.Slices.{part, scan_part}
 use Rattle.laws.proofs.Each.{some_length}
 use Rattle.args.specs.Row.{Row, SomeArg, NextIs, Skips}
 use Rattle.args.proofs.ArgumentRows.{row_shaped}
@@ -201,11 +202,11 @@ module _ {s : List ℕ} {i n : ℕ} {l : List Val} {e done : ℕ} (g : SkipLeft 
 
 module _ {k r : ℕ} {s : List ℕ} {i e : ℕ} {j : Kind} {qs : List ℕ} (x : Column k r s i e j qs) where
   -- what is scanned for it
-  pub column_scan : Scan j s i e (some (joined (lit_bytes j) qs))
+  pub column_scan : Scan j (part s i e) 0 (length (part s i e)) (some (joined (lit_bytes j) qs))
   unfolding map_some
   column_scan =
-      subst (Scan j s i e) (ap (map_some (joined val_bytes)) x.goes ∙ ap some (literals_bytes j qs))
-      (list_scan j x.values x.bytes x.shaped (literals_plain j x.values qs x.goes))
+      scan_part (subst (Scan j s i e) (ap (map_some (joined val_bytes)) x.goes ∙ ap some (literals_bytes j qs))
+      (list_scan j x.values x.bytes x.shaped (literals_plain j x.values qs x.goes)))
 
   pub column_long : length (vec_bytes j qs) ≡ 3 + length (joined (lit_bytes j) qs)
   unfolding vec_bytes

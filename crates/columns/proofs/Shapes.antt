@@ -18,9 +18,10 @@ use Rattle.laws.proofs.AgreeQm.{shape_set}
 use Rattle.laws.proofs.AgreeConv.{AllTy}
 use Rattle.laws.proofs.SoundVal.{joined_vals}
 use Rattle.laws.proofs.Each.{some_length}
+use Rattle.shape.specs.declared.Shape.{Shape}
 use Rattle.shape.specs.declared.Shape.TheVariants as shape
 use Rattle.shape.specs.Matrices.{way_of}
-use Rattle.columns.specs.Columns.{Scalars, Vectors}
+use Rattle.columns.specs.Columns.{Scalars, Vectors, PartsAre}
 use Rattle.columns.specs.ColumnParts.{Parts}
 use Rattle.columns.proofs.Columns.{vectors_are, scalars_are}
 
@@ -78,15 +79,7 @@ module _ {k : ℕ} {ty s : List ℕ} {count : ℕ} {j : Kind} {t : Ty} {l ws : L
   full : leaf (set_leaf j t) ≡ some j → mat_shape c r t count ≡ ok tt → T (shaped_val (Vm c r j (payloads_of_all ws)))
   full e h = shape_pay c r (set_leaf j t) j count e (shape_set c r t j count ∙ h) ws x.shaped x.types counted
 
-  pub scalars_full : (mat_shape c r t count ≡ ok tt) × (shape.Scalars ≡ way_of t) → T (shaped_val (Vm c r j (payloads_of_all ws)))
-  unfolding leaf set_leaf
-  scalars_full h = full (rw (scalar_way c r count t h).is) h.0
-
-  pub columns_full : (mat_shape c r t count ≡ ok tt) × (shape.Columns ≡ way_of t) → T (shaped_val (Vm c r j (payloads_of_all ws)))
-  unfolding leaf set_leaf
-  columns_full h = full (rw (column_way c r count t h).is) h.0
-
-  pub parts_scalars : (mat_shape c r t count ≡ ok tt) × (shape.Scalars ≡ way_of t) → Scalars c r k s j (payloads_of_all ws)
+  parts_scalars : (mat_shape c r t count ≡ ok tt) × (shape.Scalars ≡ way_of t) → Scalars c r k s j (payloads_of_all ws)
   unfolding set_leaf
   parts_scalars h =
       let y = scalar_way c r count t h in
@@ -100,7 +93,7 @@ module _ {k : ℕ} {ty s : List ℕ} {count : ℕ} {j : Kind} {t : Ty} {l ws : L
         count = sym (length-map (payloads_of_all ws) (Vs j)) ∙ (sym (ap length q) ∙ (many ∙ y.count));
       }
 
-  pub parts_vectors : (mat_shape c r t count ≡ ok tt) × (shape.Columns ≡ way_of t) → Vectors c r k s j (payloads_of_all ws)
+  parts_vectors : (mat_shape c r t count ≡ ok tt) × (shape.Columns ≡ way_of t) → Vectors c r k s j (payloads_of_all ws)
   unfolding set_leaf
   parts_vectors h =
       let y = column_way c r count t h in
@@ -114,3 +107,18 @@ module _ {k : ℕ} {ty s : List ℕ} {count : ℕ} {j : Kind} {t : Ty} {l ws : L
         goes = x.goes;
         are = vectors_are r j ws a ∙ ap (λ (n : ℕ). joined (vec_bytes j) (columns n r (payloads_of_all ws))) (many ∙ y.count);
       }
+
+  pub parts_ok : mat_shape c r t count ≡ ok tt
+      → (mat_shape c r t count >> ok (Vm c r j (payloads_of_all ws))) ≡ ok (Vm c r j (payloads_of_all ws))
+  parts_ok h = rw h
+
+  pub parts_are : (shape : Shape) → (mat_shape c r t count ≡ ok tt) × (shape ≡ way_of t)
+      → PartsAre shape c r k s j (payloads_of_all ws)
+  parts_are shape.Scalars h = parts_scalars h
+  parts_are shape.Columns h = parts_vectors h
+
+  pub parts_full : (shape : Shape) → (mat_shape c r t count ≡ ok tt) × (shape ≡ way_of t)
+      → T (shaped_val (Vm c r j (payloads_of_all ws)))
+  unfolding leaf set_leaf
+  parts_full shape.Scalars h = full (rw (scalar_way c r count t h).is) h.0
+  parts_full shape.Columns h = full (rw (column_way c r count t h).is) h.0

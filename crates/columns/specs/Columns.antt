@@ -10,8 +10,8 @@ use Rattle.record.specs.Bytes.{Put}
 use Rattle.record.specs.Values.{BytesAt}
 use Rattle.conv.specs.Values.{plains}
 use Rattle.args.specs.Row.{Row}
-use Rattle.error.specs.Told.{Builds}
-use Rattle.error.specs.Told.{Written}
+use Rattle.shape.specs.declared.Shape.{Shape}
+use Rattle.shape.specs.declared.Shape.TheVariants as shape
 
 -- ---- some of the arguments
 
@@ -60,16 +60,6 @@ pub record Scalars (c r k : ℕ) (s : List ℕ) (j : Kind) (qs : List ℕ) : Typ
   pub goes : all_some (conv_lits j) values ≡ some (map (Vs j) qs)
   pub count : length qs ≡ c * r
 
-pub record ScalarsRoom (c r k : ℕ) (s out : List ℕ) (to : ℕ) : Type 0 where
-  pub kind : Kind
-  pub pays : List ℕ
-  pub scalars : Scalars c r k s kind pays
-  pub room : to + length (joined (vec_bytes kind) (columns c r pays)) ≤ length out
-
-abbrev pub ScalarsPut : ℕ → ℕ → ℕ → List ℕ → List ℕ → ℕ → ℕ → List ℕ → Type 0
-ScalarsPut c r k s out to x out' = (j : Kind) (qs : List ℕ) → Scalars c r k s j qs
-    → Put out to (joined (vec_bytes j) (columns c r qs)) x out'
-
 -- the arguments are vectors which in the kind j are the columns of the matrix with the payloads qs
 pub record Vectors (c r k : ℕ) (s : List ℕ) (j : Kind) (qs : List ℕ) : Type 0 where
   pub no : k ≡ kind_no j
@@ -80,17 +70,23 @@ pub record Vectors (c r k : ℕ) (s : List ℕ) (j : Kind) (qs : List ℕ) : Typ
   pub goes : all_some (conv_lits j) values ≡ some intos
   pub are : joined val_bytes intos ≡ joined (vec_bytes j) (columns c r qs)
 
--- ---- the matrix of those payloads is handed over: "22 the accepted record is longer than the lent buffer"
+-- what the arguments are by their shape
+abbrev pub PartsAre : Shape → ℕ → ℕ → ℕ → List ℕ → Kind → List ℕ → Type 0
+PartsAre shape.Scalars c r k s j qs = Scalars c r k s j qs
+PartsAre shape.Columns c r k s j qs = Vectors c r k s j qs
 
-abbrev pub RoomFor : ℕ → ℕ → ℕ → ℕ → Bool → Type 0
-RoomFor c r k room x = (j : Kind) → k ≡ kind_no j → x ≡ leb (val_len (Tm c r j)) room
+-- ---- the columns of the payloads that X says of a kind
 
--- what X says of a kind and of payloads that are the matrix's
-pub record SomeMatrix (c r : ℕ) (X : Kind → List ℕ → Type 0) : Type 0 where
+pub record PartsRoom (c r : ℕ) (X : Kind → List ℕ → Type 0) (out : List ℕ) (to : ℕ) : Type 0 where
   pub kind : Kind
   pub pays : List ℕ
   pub are : X kind pays
-  pub shaped : T (shaped_val (Vm c r kind pays))
+  pub room : to + length (joined (vec_bytes kind) (columns c r pays)) ≤ length out
 
-abbrev pub Hands : ℕ → ℕ → (Kind → List ℕ → Type 0) → List ℕ → Written → List ℕ → Type 0
-Hands c r X out x out' = (j : Kind) (qs : List ℕ) → X j qs → T (shaped_val (Vm c r j qs)) → Builds (ok (Vm c r j qs)) out x out'
+abbrev pub PartsPut : ℕ → ℕ → (Kind → List ℕ → Type 0) → List ℕ → ℕ → ℕ → List ℕ → Type 0
+PartsPut c r X out to x out' = (j : Kind) (qs : List ℕ) → X j qs → Put out to (joined (vec_bytes j) (columns c r qs)) x out'
+
+-- ---- room: "22 the accepted record is longer than the lent buffer"
+
+abbrev pub RoomFor : ℕ → ℕ → ℕ → ℕ → Bool → Type 0
+RoomFor c r k room x = (j : Kind) → k ≡ kind_no j → x ≡ leb (val_len (Tm c r j)) room

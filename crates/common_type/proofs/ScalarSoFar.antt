@@ -115,7 +115,7 @@ module _ {s : List ℕ} {i : ℕ} {v : Val} {l : List Val} (y : LiteralIs s i v)
 
 pub literal_first : {flat : Bool} {s : List ℕ} (ty : List ℕ) {v : Val} {l : List Val} (x : Row s 0 (v ∷ l)) (y : LiteralIs s 0 v) {n : ℕ}
     → Sized (get_or s 2 0) lit_len most_lit n → 3 ≤ length ty
-    → PartIs flat s 0 v l n 0 3 (set (set (set ty 0 ‘T’) 1 ‘s’) 2 (get_or s 2 0))
+    → PartIs flat s 0 v l n 3 (set (set (set ty 0 ‘T’) 1 ‘s’) 2 (get_or s 2 0))
 unfolding ty_bytes shaped_ty depth
 literal_first {flat} {s} ty {v} x y {n} z h =
     let k = y.kind in

@@ -1,5 +1,5 @@
 -- What the arguments bring to a list: their types, or the types of their parts.
-use Rattle.std.specs.Prelude.{List, ◌∷◌, map, Bool, true, false, ℕ}
+use Rattle.std.specs.Prelude.{List, ◌∷◌, map, Bool, true, false, ℕ, length}
 use Rattle.meaning.specs.Trees.{Ty, Ts, Tv, Tm, Ta, Tu, Val, type_of}
 use Rattle.meaning.specs.Build.{flattened}
 use Rattle.ty.specs.Stands.{Stands}
@@ -29,10 +29,14 @@ part_types flat l = map (λ v. part_type flat (type_of v)) l
 abbrev pub PartAt : Bool → List ℕ → ℕ → Type 0
 PartAt flat ty r = (t : Ty) (e : ℕ) → Stands 15 ty 0 t e → Stands 15 ty r (part_type flat t) e
 
--- the argument v at i ends at e, and the record of the type that it brings stands in ty, from `from` up to `to`
-pub record PartIs (flat : Bool) (s : List ℕ) (i : ℕ) (v : Val) (l : List Val) (e from to : ℕ) (ty : List ℕ) : Type 0 where
+-- the argument v at i ends at e, and the record of the type that it brings stands at the front of ty, up to q
+pub record PartIs (flat : Bool) (s : List ℕ) (i : ℕ) (v : Val) (l : List Val) (e q : ℕ) (ty : List ℕ) : Type 0 where
   pub next : NextIs s i v l e
-  pub stands : Stands 15 ty from (part_type flat (type_of v)) to
+  pub stands : Stands 15 ty 0 (part_type flat (type_of v)) q
 
-abbrev pub Parts : Bool → List ℕ → ℕ → ℕ → ℕ → ℕ → List ℕ → Type 0
-Parts flat s i e from to ty = (v : Val) (l : List Val) → Row s i (v ∷ l) → PartIs flat s i v l e from to ty
+abbrev pub Parts : Bool → List ℕ → ℕ → ℕ → ℕ → List ℕ → Type 0
+Parts flat s i e q ty = (v : Val) (l : List Val) → Row s i (v ∷ l) → PartIs flat s i v l e q ty
+
+-- the same where ty is that record
+abbrev pub Brings : Bool → List ℕ → ℕ → ℕ → List ℕ → Type 0
+Brings flat s i e ty = Parts flat s i e (length ty) ty

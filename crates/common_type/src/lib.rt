@@ -1,38 +1,50 @@
 // The common type of a list: the source's `convert_all_ty` (conv.rs) on records in a row, of values and of types.
 #![tactic(auto)]
 
-ghost use Rattle.std.specs.Prelude.{◌≡◌, List, map, length};
+ghost use Rattle.std.specs.Prelude.{◌≡◌, ◌≤◌, List, map, length};
 ghost use Rattle.meaning.specs.Trees.{Ty, Val, type_of};
 ghost use Rattle.meaning.specs.Convert.{common};
-ghost use Rattle.ty.specs.Stands.{Standing};
+ghost use Rattle.ty.specs.Stands.{Stands, Standing, Whole};
 ghost use Rattle.shape.specs.TypeRows.{TypeRow, SomeTypeRow};
 ghost use Rattle.args.specs.Row.{Row, SomeRow, SomeArg};
-ghost use Rattle.common_type.specs.Brought.{brought, PartAt, Parts};
-ghost use Rattle.common_type.specs.CommonTypes.{Commons, Meeting, Meets, Going, Goes, GoingScalar, GoingTypes, GoesTypes};
+ghost use Rattle.common_type.specs.Brought.{brought, PartAt, Parts, Brings};
+ghost use Rattle.common_type.specs.CommonTypes.{Commons, Meeting, Meets, Going, Goes, GoingScalar};
+ghost use Rattle.common_type.specs.CommonTypes.{GoingTypes, GoesTypes};
 
 use args::Step;
-use ty::Limit;
+use record::Writer;
+use ty::{Limit, Type};
 
-// Where an argument ends, and where the record of the type that it brings begins and ends.
+// Where an argument ends, and the type that it brings.
 #[derive(Clone, Copy)]
-struct Part {
+struct Part<'t> {
     end: usize,
-    from: usize,
-    to: usize,
+    ty: Type<'t>,
 }
 
 // ---- the common type
 
+// The type becomes the one so far, at the front of `ty`.
+fn keep(ty: &mut [u8], kept: Type) -> usize
+    requires { length kept.bytes.now ≤ length ty.old }
+    ensures { (t : Ty) → Whole kept.entry.bytes.now t → Stands 15 ty.new 0 t result }
+{
+    let mut w = Writer { out: ty, at: 0 };
+    w.put_bytes(kept.bytes);
+    w.at
+}
+
 // The type so far, at the front of `ty` up to q, and the next one: the next if the first converts to it, else the first
 // if the next converts to it.
-fn meet(ty: &mut [u8], q: usize, next: &[u8]) -> Option<usize>
-    requires { Meeting ty.old q next.now }
-    ensures { Meets ty.old q next.now result ty.new }
+fn meet(ty: &mut [u8], q: usize, next: Type) -> Option<usize>
+    requires { Meeting ty.old q next.bytes.now }
+    ensures { Meets ty.old q next.entry.bytes.now result ty.new }
 {
-    if rank::type_converts(&ty[..q], next) {
-        return Some(record::copy(next, 0, next.len(), ty, 0));
+    let so_far = Type { bytes: &ty[..q] };
+    if rank::type_converts(so_far, next) {
+        return Some(keep(ty, next));
     }
-    if rank::type_converts(next, &ty[..q]) {
+    if rank::type_converts(next, so_far) {
         return Some(q);
     }
     None
@@ -52,17 +64,19 @@ fn part_at(ty: &[u8], flat: bool) -> usize
 }
 
 // The type that the argument at i brings, whose record stands in `ty` then.
-fn next_part(args: &[u8], i: usize, flat: bool, ty: &mut [u8]) -> Part
+fn next_part<'t>(args: &[u8], i: usize, flat: bool, ty: &'t mut [u8]) -> Part<'t>
     requires some_arg { SomeArg args.now i }
     requires ty_len { length ty.old ≡ 4096 }
-    ensures { Parts flat args.now i result.end result.from result.to ty.new }
+    ensures brings { Brings flat args.now i result.end result.ty.bytes.now }
+    ensures short { length result.ty.bytes.now ≤ 4096 }
 {
     let step = args::next_type(args, i, ty);
     let from = part_at(ty, flat);
     Part {
         end: step.end,
-        from: from,
-        to: step.ty,
+        ty: Type {
+            bytes: &ty[from..step.ty],
+        },
     }
 }
 
@@ -70,14 +84,13 @@ fn next_part(args: &[u8], i: usize, flat: bool, ty: &mut [u8]) -> Part
 fn first_other(args: &[u8], flat: bool, ty: &mut [u8]) -> Step
     requires some_arg { SomeArg args.now 0 }
     requires ty_len { length ty.old ≡ 4096 }
-    ensures { Parts flat args.now 0 result.end 0 result.ty ty.new }
+    ensures { Parts flat args.now 0 result.end result.ty ty.new }
 {
     let mut next = [0u8; Limit::TYPE_BYTES];
     let part = next_part(args, 0, flat, &mut next);
-    let q = record::copy(&next, part.from, part.to, ty, 0);
     Step {
         end: part.end,
-        ty: q,
+        ty: keep(ty, part.ty),
     }
 }
 
@@ -91,9 +104,7 @@ fn common_from(args: &[u8], i: usize, flat: bool, ty: &mut [u8], q: usize) -> Op
     let mut end = q;
     while at < args.len() {
         let part = next_part(args, at, flat, &mut next);
-        let from = part.from;
-        let to = part.to;
-        end = meet(ty, end, &next[from..to])?;
+        end = meet(ty, end, part.ty)?;
         at = part.end;
     }
     Some(end)
@@ -105,7 +116,7 @@ fn common_from(args: &[u8], i: usize, flat: bool, ty: &mut [u8], q: usize) -> Op
 fn first_type(args: &[u8], flat: bool, ty: &mut [u8]) -> Step
     requires some_arg { SomeArg args.now 0 }
     requires ty_len { length ty.old ≡ 4096 }
-    ensures { Parts flat args.now 0 result.end 0 result.ty ty.new }
+    ensures { Parts flat args.now 0 result.end result.ty ty.new }
 {
     if args[1] != b's' {
         return first_other(args, flat, ty);
@@ -149,17 +160,19 @@ fn common_rest(args: &[u8], i: usize, flat: bool, ty: &mut [u8], q: usize) -> Op
 }
 
 // The common type of the values that the arguments bring, with `flat` the parts of vectors: "one of its own types to
-// which all others convert; none exists otherwise", so there is none of no argument.
-pub fn common_type_of(args: &[u8], flat: bool, ty: &mut [u8]) -> Option<usize>
+// which all others convert; none exists otherwise", so there is none of no argument. Its record is
+// written at the front of `ty`.
+pub fn common_type_of<'t>(args: &[u8], flat: bool, ty: &'t mut [u8]) -> Option<Type<'t>>
     requires some_row { SomeRow args.now 0 }
     requires ty_len { length ty.old ≡ 4096 }
-    ensures { (l : List Val) → Row args.now 0 l → Commons (common (map type_of (brought flat l))) result ty.new }
+    ensures { (l : List Val) → Row args.now 0 l → Commons (common (map type_of (brought flat l))) result }
 {
     if args.len() == 0 {
         return None;
     }
     let first = first_type(args, flat, ty);
-    common_rest(args, first.end, flat, ty, first.ty)
+    let q = common_rest(args, first.end, flat, ty, first.ty)?;
+    Some(Type { bytes: &ty[..q] })
 }
 
 // ---- the same for types in a row
@@ -173,22 +186,29 @@ fn common_types_from(types: &[u8], i: usize, ty: &mut [u8], q: usize) -> Option<
     let mut end = q;
     while at < types.len() {
         let e = shape::end_of_type(types, at, Limit::DEPTH);
-        end = meet(ty, end, &types[at..e])?;
+        end = meet(
+            ty,
+            end,
+            Type {
+                bytes: &types[at..e],
+            },
+        )?;
         at = e;
     }
     Some(end)
 }
 
-// The common type of the types whose records stand in a row.
-pub fn common_type(types: &[u8], ty: &mut [u8]) -> Option<usize>
+// The common type of the types whose records stand in a row. Its record is written at the front of `ty`.
+pub fn common_type<'t>(types: &[u8], ty: &'t mut [u8]) -> Option<Type<'t>>
     requires some_type_row { SomeTypeRow types.now 0 }
     requires ty_len { length ty.old ≡ 4096 }
-    ensures { (l : List Ty) → TypeRow types.now 0 l → Commons (common l) result ty.new }
+    ensures { (l : List Ty) → TypeRow types.now 0 l → Commons (common l) result }
 {
     if types.len() == 0 {
         return None;
     }
     let e = shape::end_of_type(types, 0, Limit::DEPTH);
-    let q = record::copy(types, 0, e, ty, 0);
-    common_types_from(types, e, ty, q)
+    let first = keep(ty, Type { bytes: &types[..e] });
+    let q = common_types_from(types, e, ty, first)?;
+    Some(Type { bytes: &ty[..q] })
 }

@@ -4,11 +4,9 @@ use mathlib.Core.Path.{◌≡◌, refl, sym, ap, ◌∙◌, subst}
 use mathlib.Core.Option.{Option as Maybe, some}
 use mathlib.Core.List.{List}
 use mathlib.Core.Bool.{true}
-use Prim.Native.Nat.{ℕ, ◌-◌}
-use native.Mathlib.Omega.{arith}
+use Prim.Native.Nat.{ℕ}
 use lib.Dec.{T}
-use lib.ListN.{length, take, drop}
-use lib.Seq.{take_at}
+use lib.ListN.{length}
 use Rattle.meaning.specs.Kinds.{Kind, kind_no}
 use Rattle.meaning.specs.Scalars.{some?}
 use Rattle.meaning.specs.Trees.{Ty, Val, Vs, Vv, Vm, Va, Vu, Vals, ⟨⟩, ◌▹◌, type_of, types_of, first, leaf}
@@ -24,6 +22,7 @@ use Rattle.record.specs.Bytes.{Put}
 use Rattle.conv.specs.Values.{plain, plains, ValueTo}
 use Rattle.ty.proofs.Bottom.{KindIs, kind_is, struct_is}
 use Rattle.conv.proofs.Values.{Scan, val_scan}
+use Rattle.conv.proofs.Slices.{all_is}
 use Rattle.std.specs.declared.option.Option.{Option}
 use Rattle.std.specs.declared.option.Option.TheVariants.{None, Some}
 
@@ -93,10 +92,9 @@ module _ {d : ℕ} {ty : List ℕ} {at : ℕ} {s : List ℕ} {from e : ℕ} {t :
     pub struct_into : {w : Val} → conv_val t v ≡ some w → v ≡ w
     struct_into g = some_inj (sym kept ∙ g)
 
-    pub struct_put : {w : Val} → conv_val t v ≡ some w → {out out' : List ℕ} {to n : ℕ} → Put out to (take (e - from) (drop from s)) n out'
-        → Put out to (val_bytes w) n out'
-    struct_put {w} g {out} {out'} {to} {n} y =
-        let b = x.has.bytes in
-        let z : e - from ≡ length (val_bytes v) = omega (arith, b.size) in
-        let p : take (e - from) (drop from s) ≡ val_bytes v = rw (z, b.here) (take_at (val_bytes v) (drop e s) (length (val_bytes v)) refl) in
-        subst (λ (l : List ℕ). Put out to l n out') (p ∙ ap val_bytes (struct_into g)) y
+-- it is copied
+pub struct_put : {d : ℕ} {ty : List ℕ} {at : ℕ} {s : List ℕ} {t : Ty} {v : Val} → ValueTo d ty at s 0 (length s) t v
+    → {r : Option ℕ} → LeafAt d ty at r → r ≡ None → {w : Val} → conv_val t v ≡ some w
+    → {out out' : List ℕ} {to n : ℕ} → Put out to s n out' → Put out to (val_bytes w) n out'
+struct_put x f q g {out} {out'} {to} {n} y =
+    subst (λ (l : List ℕ). Put out to l n out') (all_is x.has.bytes ∙ ap val_bytes (struct_into x f q g)) y

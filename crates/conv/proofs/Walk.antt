@@ -103,7 +103,7 @@ module _ {g : Item → Option Item} {s : List ℕ} {e : ℕ} {out₀ : List ℕ}
     (x : Writing g s e out₀ to m i p out) where
   module _ (h : i < e) where
     -- the next one and what it goes to, for which there is room
-    pub write_room : {P : Type 0} → Takes out to (bytes_of m) → ((a b : Item) → ItemAt s i a → g a ≡ some b → Takes out p (item_bytes b) → P)
+    pub write_room : {P : Type 0} → Takes out₀ to (bytes_of m) → ((a b : Item) → ItemAt s i a → g a ≡ some b → Takes out p (item_bytes b) → P)
         → P
     unfolding joined
     write_room t k =

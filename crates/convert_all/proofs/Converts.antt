@@ -3,11 +3,11 @@ use mathlib.Core.Path.{◌≡◌, refl, sym, ap, ap₂, ◌∙◌, subst}
 use mathlib.Core.Option.{Option as Maybe, none, some}
 use mathlib.Core.List.{List, [], ◌∷◌, ◌++◌, map}
 use mathlib.Core.Bool.{Bool, true, false, ◌&&◌}
-use Prim.Native.Nat.{ℕ, ◌-◌}
+use Prim.Native.Nat.{ℕ}
 use native.Mathlib.Omega.{arith}
 use lib.Dec.{T}
-use lib.ListN.{length, take, drop, length-drop, length-append}
-use lib.Seq.{drop-append_seam, take-length}
+use lib.ListN.{length, drop, length-append}
+use lib.Seq.{drop-append_seam}
 use Rattle.meaning.specs.Kinds.{Kind, kind_no}
 use Rattle.meaning.specs.Scalars.{some?}
 use Rattle.meaning.specs.Trees.{Ty, Val, type_of, leaf, vals_of}
@@ -30,6 +30,7 @@ use Rattle.ty.proofs.Bottom.{KindIs, kind_is, struct_is}
 use Rattle.conv.proofs.ValueByType.{leaf_plain, leaf_from}
 use Rattle.laws.proofs.Each.{push, some_cons}
 use Rattle.conv.proofs.Values.{Scan, list_scan}
+use Rattle.conv.proofs.Slices.{part, part_is, scan_part}
 use Rattle.args.specs.Row.{Row}
 use Rattle.args.proofs.ArgumentRows.{some_val, row_bytes, each_shaped}
 use Rattle.convert_all.specs.Lists.{all_to, AskedFit}
@@ -118,7 +119,7 @@ module _ {d : ℕ} {ty : List ℕ} {at : ℕ} {s : List ℕ} {from : ℕ} {t : T
   pub record RowScan (k : ℕ) : Type 0 where
     pub kind : Kind
     pub no : k ≡ kind_no kind
-    pub scan : Scan kind s from (length s) (map_some (joined val_bytes) (all_some (conv_val t) l))
+    pub scan : Scan kind (part s from (length s)) 0 (length (part s from (length s))) (map_some (joined val_bytes) (all_some (conv_val t) l))
 
   pub row_scan : {k : ℕ} {r : Option ℕ} → LeafAt d ty at r → r ≡ Some k → RowScan k
   row_scan {k} f q =
@@ -127,8 +128,8 @@ module _ {d : ℕ} {ty : List ℕ} {at : ℕ} {s : List ℕ} {from : ℕ} {t : T
       record {
         kind = y.kind;
         no = y.no;
-        scan = subst (λ (o : Maybe (List Val)). Scan y.kind s from (length s) (map_some (joined val_bytes) o))
-            (sym (all_lits t y.is l c)) (list_scan y.kind l (row_bytes x) g (all_plain t y.is l g c));
+        scan = scan_part (subst (λ (o : Maybe (List Val)). Scan y.kind s from (length s) (map_some (joined val_bytes) o))
+            (sym (all_lits t y.is l c)) (list_scan y.kind l (row_bytes x) g (all_plain t y.is l g c)));
       }
 
   -- a struct in the way
@@ -144,11 +145,9 @@ module _ {d : ℕ} {ty : List ℕ} {at : ℕ} {s : List ℕ} {from : ℕ} {t : T
     row_into g = some_inj (sym kept ∙ g)
 
     pub row_put : {ws : List Val} → all_some (conv_val t) l ≡ some ws → {out out' : List ℕ} {to n : ℕ}
-        → Put out to (take (length s - from) (drop from s)) n out' → Put out to (joined val_bytes ws) n out'
+        → Put out to (part s from (length s)) n out' → Put out to (joined val_bytes ws) n out'
     row_put {ws} g {out} {out'} {to} {n} y =
-        let z : length s - from ≡ length (drop from s) = omega (arith, length-drop from s) in
-        let p : take (length s - from) (drop from s) ≡ joined val_bytes l = rw z (take-length (drop from s)) ∙ x.here in
-        subst (λ (b : List ℕ). Put out to b n out') (p ∙ ap (joined val_bytes) (row_into g)) y
+        subst (λ (b : List ℕ). Put out to b n out') (part_is (row_bytes x) ∙ ap (joined val_bytes) (row_into g)) y
 
 -- what was asked of the arguments that stand there holds of whichever do
 pub asked_all : {args : List ℕ} {from d : ℕ} {ty : List ℕ} {at : ℕ} → AskedFit args from d ty at → {l : List Val} {t : Ty} {e : ℕ}

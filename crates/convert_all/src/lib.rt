@@ -3,12 +3,12 @@
 
 ghost use Rattle.std.specs.Prelude.{◌≡◌, ◌≤◌};
 ghost use Rattle.ty.specs.declared.Head.TheVariants.{Scalar, Vector, Matrix};
-ghost use Rattle.ty.specs.Stands.{OneType};
 ghost use Rattle.args.specs.Row.{SomeRow, SomeArg};
 ghost use Rattle.convert_all.specs.Lists.{HeadConverts, ArgConverts, Asked, AskedFit, TypesConvert, LiteralsFit, AllConvert};
 ghost use Rattle.convert_all.specs.Lists.{AllRoom, AllPut};
 
-use ty::{Head, Limit};
+use record::Writer;
+use ty::{Head, Limit, Size, Type};
 
 // ---- one argument's type to a type
 
@@ -36,58 +36,61 @@ fn vector_converts(n: u8, j: u8, to: Head) -> bool
 }
 
 // The same of a matrix: to one of equal shape.
-fn matrix_converts(c: u8, r: u8, j: u8, to: Head) -> bool
-    ensures { HeadConverts (Matrix c r j) to result }
+fn matrix_converts(size: Size, j: u8, to: Head) -> bool
+    ensures { HeadConverts (Matrix size.columns size.rows j) to result }
 {
-    let Head::Matrix(a, b, k) = to else {
+    let Head::Matrix(c, r, k) = to else {
         return false;
     };
-    if a != c {
+    if c != size.columns {
         return false;
     }
-    if b != r {
+    if r != size.rows {
         return false;
     }
     rank::kind_converts(j, k)
 }
 
 // Whether the type of the argument at i, whatever that is, converts to the type that `ty` is.
-fn derived_converts(args: &[u8], i: usize, ty: &[u8]) -> bool
-    requires some_arg { SomeArg args.now i }
-    requires one_type { OneType ty.now }
-    ensures { ArgConverts args.now i ty.now result }
+fn derived_converts(args: &[u8], i: usize, ty: Type) -> bool
+    requires { SomeArg args.now i }
+    ensures { ArgConverts args.now i ty.entry.bytes.now result }
 {
     let mut buf = [0u8; Limit::TYPE_BYTES];
     let step = args::next_type(args, i, &mut buf);
     let q = step.ty;
-    rank::type_converts(&buf[..q], ty)
+    rank::type_converts(Type { bytes: &buf[..q] }, ty)
 }
 
 // The same. An array's type and a struct's are derived; any other is seen at its front.
-pub fn arg_converts(args: &[u8], i: usize, ty: &[u8]) -> bool
-    requires some_arg { SomeArg args.now i }
-    requires one_type { OneType ty.now }
-    ensures { ArgConverts args.now i ty.now result }
+pub fn arg_converts(args: &[u8], i: usize, ty: Type) -> bool
+    requires { SomeArg args.now i }
+    ensures { ArgConverts args.now i ty.entry.bytes.now result }
 {
     // taken anew: its two words are read one by one, not copied at once (docs/DECISIONS.md, 66)
     let a = &args[..];
-    let t = &ty[..];
+    let t = &ty.bytes[..];
     match args::head_of(a, i) {
         Head::Scalar(j) => scalar_converts(j, ty::head_at(t, 0, Limit::DEPTH)),
         Head::Vector(n, j) => vector_converts(n, j, ty::head_at(t, 0, Limit::DEPTH)),
-        Head::Matrix(c, r, j) => matrix_converts(c, r, j, ty::head_at(t, 0, Limit::DEPTH)),
-        Head::Array(_) => derived_converts(a, i, t),
-        Head::Struct(_, _) => derived_converts(a, i, t),
+        Head::Matrix(c, r, j) => {
+            let size = Size {
+                columns: c,
+                rows: r,
+            };
+            matrix_converts(size, j, ty::head_at(t, 0, Limit::DEPTH))
+        }
+        Head::Array(_) => derived_converts(a, i, ty),
+        Head::Struct(_, _) => derived_converts(a, i, ty),
     }
 }
 
 // ---- all arguments to one type
 
 // Whether the type of each argument from `from` on converts to the type that `ty` is.
-fn others_convert(args: &[u8], from: usize, ty: &[u8]) -> bool
-    requires some_row { SomeRow args.now from }
-    requires one_type { OneType ty.now }
-    ensures { TypesConvert args.now from ty.now result }
+fn others_convert(args: &[u8], from: usize, ty: Type) -> bool
+    requires { SomeRow args.now from }
+    ensures { TypesConvert args.now from ty.entry.bytes.now result }
 {
     let mut i = from;
     while i < args.len() {
@@ -131,7 +134,7 @@ pub fn all_fit(args: &[u8], from: usize, ty: &[u8], at: usize, depth: u8) -> boo
     let Some(k) = ty::leaf_at(ty, at, depth) else {
         return true;
     };
-    conv::fits(args, from, args.len(), k)
+    conv::fits(&args[from..], k)
 }
 
 // Whether each argument from `from` on converts to the type whose record stands at `at`: "a value converts exactly if
@@ -150,27 +153,20 @@ pub fn all_convert(args: &[u8], from: usize, ty: &[u8], at: usize, depth: u8) ->
     if t[at + 1] == b's' {
         return literals_fit(a, from, t[at + 2]);
     }
-    if !others_convert(a, from, &t[at..e]) {
+    if !others_convert(a, from, Type { bytes: &t[at..e] }) {
         return false;
     }
     all_fit(a, from, t, at, depth)
 }
 
 // The arguments from `from` on, converted to that type, one after another.
-pub fn write_all(
-    args: &[u8],
-    from: usize,
-    ty: &[u8],
-    at: usize,
-    depth: u8,
-    out: &mut [u8],
-    to: usize,
-) -> usize
-    requires { AllRoom args.now from depth ty.now at out.old to }
-    ensures { AllPut args.now from depth ty.now at out.old to result out.new }
+pub fn write_all(args: &[u8], from: usize, ty: &[u8], at: usize, depth: u8, w: &mut Writer)
+    requires { AllRoom args.now from depth ty.now at w.old.out.now w.old.at }
+    ensures put { AllPut args.now from depth ty.now at w.old.out.now w.old.at w.new.at w.new.out.now }
+    ensures same_reference { w.new.out.ghost_name ≡ w.old.out.ghost_name }
 {
     match ty::leaf_at(ty, at, depth) {
-        Some(k) => conv::convert_items(args, from, args.len(), k, out, to),
-        None => record::put_bytes(out, to, &args[from..]),
+        Some(k) => conv::convert_items(&args[from..], k, w),
+        None => w.put_bytes(&args[from..]),
     }
 }

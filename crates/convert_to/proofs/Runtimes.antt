@@ -21,7 +21,8 @@ use Rattle.ty.proofs.Places.{put_stands}
 use Rattle.record.specs.Bytes.{Put}
 use Rattle.convert_to.specs.Conversions.{Asked, Runtime, converted, converted_runtime, convert_read}
 use Rattle.ty.proofs.FrontOfBuffer.{front_whole}
-use Rattle.args.specs.OneValue.{OneValue}
+use Rattle.ty.specs.Targets.{RuntimeIs}
+use Rattle.args.specs.OneValue.{OneValue, Found}
 use Rattle.args.proofs.OneValue.{one_type}
 use Rattle.convert_to.proofs.OneValue.{one_read}
 
@@ -46,6 +47,9 @@ not_array t (Tv n k) v h = refl
 not_array t (Tm c r k) v h = refl
 not_array t (Ta n a) v h = absurd (h refl)
 not_array t (Tu i m) v h = refl
+
+pub found_runtime : {target args ty : List ℕ} (r : RuntimeIs target) (f : Found args ty) → Runtime target args ty r.type f.value
+found_runtime r f = record { whole = r.stands; small = r.good; value = f.one; type = f.whole }
 
 module _ {target args ty : List ℕ} {t : Ty} {v : Val} (x : Runtime target args ty t v) where
   byte : get_or ty 1 0 ≡ get_or (ty_bytes (type_of v)) 1 0

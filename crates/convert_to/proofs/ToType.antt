@@ -22,7 +22,8 @@ use Rattle.laws.proofs.Sound.{some_inj}
 use Rattle.conv.specs.Values.{ValueTo, ValueRoom}
 use Rattle.shape.proofs.Downs.{some_of, none_of}
 use Rattle.convert_to.specs.Conversions.{Asked, Becomes, converted, convert_read}
-use Rattle.args.specs.OneValue.{OneValue}
+use Rattle.ty.specs.Stands.{OneType}
+use Rattle.args.specs.OneValue.{OneValue, Found}
 use Rattle.args.proofs.OneValue.{one_shaped, one_type, one_has}
 use Rattle.convert_to.proofs.OneValue.{one_read}
 
@@ -58,6 +59,9 @@ module _ {target args : List ℕ} {t : Ty} {v w : Val} (x : Becomes target args 
   room_for h = record { type = t; value = v; into = w; asked = room_to; goes = x.goes; room = omega (arith, made_long) }
 
 -- ---- whether it does
+
+pub found_asked : {target args ty : List ℕ} (o : OneType target) (f : Found args ty) → Asked target args ty o.type f.value
+found_asked o f = record { whole = o.stands; value = f.one; type = f.whole }
 
 module _ {target args ty : List ℕ} {t : Ty} {v : Val} (x : Asked target args ty t v) where
   pub asked_to : T (converts (type_of v) t) → ValueTo 15 target 0 args 0 (length args) t v

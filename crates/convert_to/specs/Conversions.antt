@@ -1,13 +1,15 @@
 -- What the steps of a conversion are asked, and what they answer.
-use Rattle.std.specs.Prelude.{◌≡◌, List, ℕ, T, length}
+use Rattle.std.specs.Prelude.{◌≡◌, List, Bool, true, false, ℕ, T, length}
 use Rattle.std.proofs.Math.Option.{some}
-use Rattle.meaning.specs.Trees.{Ty, Val, Target, Of, Tr, type_of}
+use Rattle.meaning.specs.Trees.{Ty, Val, Target, type_of}
 use Rattle.meaning.specs.Records.{good_within}
 use Rattle.meaning.specs.Read.{read_vals}
 use Rattle.meaning.specs.Answers.{Answer, or_no, ◌>>=◌}
 use Rattle.meaning.specs.Convert.{converts, conv_val, conv_runtime}
 use Rattle.meaning.specs.Entries.{hand_val, only, conv_one}
 use Rattle.ty.specs.Stands.{Stands, Whole}
+use Rattle.ty.specs.declared.Target as ty
+use Rattle.ty.specs.declared.Target.TheVariants.{«Type», Runtime as RuntimeSized, Array, Vector, Matrix}
 use Rattle.error.specs.Told.{Told}
 use Rattle.args.specs.OneValue.{OneValue}
 use Rattle.error.specs.Told.{Written}
@@ -23,11 +25,6 @@ pub record Asked (target args ty : List ℕ) (t : Ty) (v : Val) : Type 0 where
   pub whole : Whole target t
   pub value : OneValue args v
   pub type : Whole ty (type_of v)
-
-pub record SomeAsked (target args ty : List ℕ) : Type 0 where
-  pub to : Ty
-  pub from : Val
-  pub asked : Asked target args ty to from
 
 abbrev pub Converts : List ℕ → List ℕ → List ℕ → List ℕ → Written → List ℕ → Type 0
 Converts target args ty out r out' = (t : Ty) (v : Val) → Asked target args ty t v → Told (converted t v (length out)) out r out'
@@ -57,11 +54,6 @@ pub record Runtime (target args ty : List ℕ) (t : Ty) (v : Val) : Type 0 where
   pub value : OneValue args v
   pub type : Whole ty (type_of v)
 
-pub record SomeRuntime (target args ty : List ℕ) : Type 0 where
-  pub to : Ty
-  pub from : Val
-  pub asked : Runtime target args ty to from
-
 unfoldable pub converted_runtime : Ty → Val → ℕ → Answer
 converted_runtime t v room = or_no 9 (conv_runtime t (type_of v) v) >>= hand_val room
 
@@ -75,9 +67,10 @@ ConvertsRuntime target args ty out r out' = (t : Ty) (v : Val) → Runtime targe
 unfoldable pub convert_read : Target → List ℕ → ℕ → Answer
 convert_read g args room = or_no 2 (read_vals g args) >>= λ l. only l >>= λ v. conv_one g v >>= hand_val room
 
-abbrev pub TypeTold : List ℕ → List ℕ → List ℕ → Written → List ℕ → Type 0
-TypeTold target args out r out' = (t : Ty) → Whole target t → Told (convert_read (Of t) args (length out)) out r out'
-
-abbrev pub RuntimeTold : List ℕ → List ℕ → List ℕ → Written → List ℕ → Type 0
-RuntimeTold target args out r out' = (t : Ty) → Stands 14 target 2 t (length target) → T (good_within 14 4092 t)
-    → Told (convert_read (Tr t) args (length out)) out r out'
+-- a target, as it is answered, that is no type and no runtime-sized array
+abbrev pub is_shape : ty.Target → Bool
+is_shape «Type» = false
+is_shape RuntimeSized = false
+is_shape Array = true
+is_shape (Vector n) = true
+is_shape (Matrix c r) = true

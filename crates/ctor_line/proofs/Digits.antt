@@ -6,12 +6,11 @@ use Prim.Native.Nat.{ℕ, zero, suc, ◌+◌, ◌-◌, ◌*◌, ◌/◌, ◌%◌
 use native.Mathlib.Nat.{pow-succ', pow-le-pow_right, div-div-eq-div-mul}
 use native.Mathlib.Omega.{arith}
 use borrow.Author.Tests.{lt-ltb, le-ltb}
-use lib.ListN.{length, set}
+use lib.ListN.{length}
 use Rattle.meaning.specs.Entries.{decimal, decimal_from}
 use Rattle.laws.proofs.Digits.{le_or_lt}
 use Rattle.record.specs.Bytes.{Takes, Put}
-use Rattle.record.proofs.Puts.{put_one}
-use Rattle.record.proofs.Left.{Left, left_all, left_room, left_on, left_end, left_same}
+use Rattle.record.proofs.Left.{Left, left_all, left_room, left_on, left_end}
 use Rattle.ctor_line.specs.Digits.{Leads}
 
 -- the d lowest digits of n
@@ -119,14 +118,13 @@ module _ {n : ℕ} {out₀ : List ℕ} {to : ℕ} {out : List ℕ} {p i : ℕ} (
         go (suc d) q e = record { places = d; is = rw (q, e); power = ap (◌/ 10) e ∙ down d }
 
     pub digit_room : Takes out₀ to (decimal n) → i + 1 ≤ length out
-    digit_room l = left_room g.rest one (digits first.places n) first.is (omega (arith, l, left_same g.rest))
+    digit_room l = left_room g.rest one (digits first.places n) first.is l
 
-    pub digit_on : DigitsLeft n out₀ to (set out i (48 + n / p % 10)) (p / 10) (i + 1)
-    digit_on = record {
+    pub digit_on : {q : ℕ} {out' : List ℕ} → Put out i one q out' → DigitsLeft n out₀ to out' (p / 10) q
+    digit_on y = record {
       places = first.places;
       power = first.power;
-      rest = left_on g.rest one (digits first.places n) first.is
-          (put_one out i (48 + n / p % 10));
+      rest = left_on g.rest one (digits first.places n) first.is y;
     }
 
   pub digits_end : p ≤ 0 → Put out₀ to (decimal n) i out

@@ -12,7 +12,7 @@ ghost use Rattle.ctor_line.specs.Digits.{Leads};
 ghost use Rattle.ctor_line.specs.Split.{split_of};
 
 use error::Refusal;
-use record::{join, put_byte, put_pair, put_three};
+use record::{Writer, join};
 
 // ---- the input
 
@@ -33,16 +33,6 @@ pub fn split(input: &[u8]) -> Option<usize>
     Some(n)
 }
 
-// ---- bytes
-
-// The line's first part, `ok` or `no`, and the space after it.
-fn put_word(a: u8, b: u8, out: &mut [u8]) -> usize
-    requires { 3 ≤ length out.old }
-    ensures { Put out.old 0 (a ∷ b ∷ 32 ∷ []) result out.new }
-{
-    put_three(out, 0, a, b, b' ')
-}
-
 // ---- hex
 
 fn hex_digit(n: u8) -> u8
@@ -56,25 +46,25 @@ fn hex_digit(n: u8) -> u8
 }
 
 // Two digits for a byte, the high one first.
-fn put_digits(b: u8, out: &mut [u8], to: usize) -> usize
-    requires { to + 2 ≤ length out.old }
-    ensures { Put out.old to (hex_digit (b / 16) ∷ hex_digit (b % 16) ∷ []) result out.new }
+fn put_digits(b: u8, w: &mut Writer)
+    requires { w.old.at + 2 ≤ length w.old.out.now }
+    ensures put { Put w.old.out.now w.old.at (hex_digit (b / 16) ∷ hex_digit (b % 16) ∷ []) w.new.at w.new.out.now }
+    ensures same_reference { w.new.out.ghost_name ≡ w.old.out.ghost_name }
 {
     let high = hex_digit(b / 16);
     let low = hex_digit(b % 16);
-    put_pair(out, to, high, low)
+    w.put_pair(high, low);
 }
 
 // "the record in lower-case hex"
-fn put_hex(bytes: &[u8], out: &mut [u8], to: usize) -> usize
-    requires { to + 2 * length bytes.now ≤ length out.old }
-    ensures { Put out.old to (hex bytes.now) result out.new }
+fn put_hex(bytes: &[u8], w: &mut Writer)
+    requires { w.old.at + 2 * length bytes.now ≤ length w.old.out.now }
+    ensures put { Put w.old.out.now w.old.at (hex bytes.now) w.new.at w.new.out.now }
+    ensures same_reference { w.new.out.ghost_name ≡ w.old.out.ghost_name }
 {
-    let mut p = to;
     for byte in bytes {
-        p = put_digits(*byte, out, p);
+        put_digits(*byte, w);
     }
-    p
 }
 
 // ---- decimal
@@ -94,73 +84,90 @@ fn digit(n: u64, p: u64) -> u8
 }
 
 // "numbers in decimal": a digit for each power of ten, from the highest down to 1. A 64-bit number has 20 of them at most.
-fn put_decimal(n: u64, out: &mut [u8], to: usize) -> usize
-    requires { to + 20 ≤ length out.old }
-    ensures put { Put out.old to (decimal n) result out.new }
-    ensures upper_bound { result ≤ to + 20 }
+fn put_decimal(n: u64, w: &mut Writer)
+    requires { w.old.at + 20 ≤ length w.old.out.now }
+    ensures put { Put w.old.out.now w.old.at (decimal n) w.new.at w.new.out.now }
+    ensures upper_bound { w.new.at ≤ w.old.at + 20 }
+    ensures same_reference { w.new.out.ghost_name ≡ w.old.out.ghost_name }
 {
     let mut p = top_power(n);
-    let mut i = to;
     while 0 < p {
-        out[i] = digit(n, p);
-        i += 1;
+        w.put_byte(digit(n, p));
         p = p / 10;
     }
-    i
 }
 
 // A number, and the byte that ends it.
-fn put_number(n: u64, after: u8, out: &mut [u8], to: usize) -> usize
-    requires { to + 21 ≤ length out.old }
-    ensures put { Put out.old to (decimal n ++ (after ∷ [])) result out.new }
-    ensures upper_bound { result ≤ to + 21 }
+fn put_number(n: u64, after: u8, w: &mut Writer)
+    requires { w.old.at + 21 ≤ length w.old.out.now }
+    ensures put { Put w.old.out.now w.old.at (decimal n ++ (after ∷ [])) w.new.at w.new.out.now }
+    ensures upper_bound { w.new.at ≤ w.old.at + 21 }
+    ensures same_reference { w.new.out.ghost_name ≡ w.old.out.ghost_name }
 {
-    let p = put_decimal(n, out, to);
-    put_byte(out, p, after)
+    put_decimal(n, w);
+    w.put_byte(after);
 }
 
 // ---- the line
 
-fn put_ok(bytes: &[u8], out: &mut [u8]) -> usize
-    requires { 4 + 2 * length bytes.now ≤ length out.old }
-    ensures put { Put out.old 0 (line (ok bytes.now)) result out.new }
-    ensures upper_bound { result ≤ length out.new }
+fn put_ok(bytes: &[u8], w: &mut Writer)
+    requires { w.old.at + (4 + 2 * length bytes.now) ≤ length w.old.out.now }
+    ensures put { Put w.old.out.now w.old.at (line (ok bytes.now)) w.new.at w.new.out.now }
+    ensures upper_bound { w.new.at ≤ length w.new.out.now }
+    ensures same_reference { w.new.out.ghost_name ≡ w.old.out.ghost_name }
 {
-    let p = put_word(b'o', b'k', out);
-    let q = put_hex(bytes, out, p);
-    put_byte(out, q, b'\n')
+    w.put_three(b'o', b'k', b' ');
+    put_hex(bytes, w);
+    w.put_byte(b'\n');
 }
 
-fn put_no(n: u8, out: &mut [u8]) -> usize
-    requires { 24 ≤ length out.old }
-    ensures put { Put out.old 0 (line (no n)) result out.new }
-    ensures upper_bound { result ≤ length out.new }
+fn put_no(n: u8, w: &mut Writer)
+    requires { w.old.at + 24 ≤ length w.old.out.now }
+    ensures put { Put w.old.out.now w.old.at (line (no n)) w.new.at w.new.out.now }
+    ensures upper_bound { w.new.at ≤ length w.new.out.now }
+    ensures same_reference { w.new.out.ghost_name ≡ w.old.out.ghost_name }
 {
-    let p = put_word(b'n', b'o', out);
-    put_number(n as u64, b'\n', out, p)
+    w.put_three(b'n', b'o', b' ');
+    put_number(n as u64, b'\n', w);
 }
 
-fn put_miscount(wanted: usize, given: usize, out: &mut [u8]) -> usize
-    requires { 66 ≤ length out.old }
-    ensures put { Put out.old 0 (line (miscount wanted given)) result out.new }
-    ensures upper_bound { result ≤ length out.new }
+fn put_miscount(wanted: usize, given: usize, w: &mut Writer)
+    requires { w.old.at + 66 ≤ length w.old.out.now }
+    ensures put { Put w.old.out.now w.old.at (line (miscount wanted given)) w.new.at w.new.out.now }
+    ensures upper_bound { w.new.at ≤ length w.new.out.now }
+    ensures same_reference { w.new.out.ghost_name ≡ w.old.out.ghost_name }
 {
     let refusal = Refusal::Count { wanted, given };
-    let p = put_word(b'n', b'o', out);
-    let q = put_number(refusal.number() as u64, b' ', out, p);
-    let s = put_number(wanted as u64, b' ', out, q);
-    put_number(given as u64, b'\n', out, s)
+    w.put_three(b'n', b'o', b' ');
+    put_number(refusal.number() as u64, b' ', w);
+    put_number(wanted as u64, b' ', w);
+    put_number(given as u64, b'\n', w);
 }
 
-fn put_refusal(refusal: Refusal, out: &mut [u8]) -> usize
-    requires { 66 ≤ length out.old }
-    ensures put { Put out.old 0 (line (refusals.refusal refusal)) result out.new }
-    ensures upper_bound { result ≤ length out.new }
+fn put_refusal(refusal: Refusal, w: &mut Writer)
+    requires { w.old.at + 66 ≤ length w.old.out.now }
+    ensures put { Put w.old.out.now w.old.at (line (refusals.refusal refusal)) w.new.at w.new.out.now }
+    ensures upper_bound { w.new.at ≤ length w.new.out.now }
+    ensures same_reference { w.new.out.ghost_name ≡ w.old.out.ghost_name }
 {
     if let Refusal::Count { wanted, given } = refusal {
-        return put_miscount(wanted, given, out);
+        put_miscount(wanted, given, w);
+    } else {
+        put_no(refusal.number(), w);
     }
-    put_no(refusal.number(), out)
+}
+
+fn put_answer(answer: Result<usize, Refusal>, buffer: &[u8], w: &mut Writer)
+    requires within { record_len answer ≤ length buffer.now }
+    requires room { w.old.at + (66 + 2 * length buffer.now) ≤ length w.old.out.now }
+    ensures put { Put w.old.out.now w.old.at (line (answer_in answer buffer.now)) w.new.at w.new.out.now }
+    ensures upper_bound { w.new.at ≤ length w.new.out.now }
+    ensures same_reference { w.new.out.ghost_name ≡ w.old.out.ghost_name }
+{
+    match answer {
+        Ok(n) => put_ok(&buffer[..n], w),
+        Err(refusal) => put_refusal(refusal, w),
+    }
 }
 
 // The line of an answer, at the front of `out`; its end is handed back. The record is at the front of `buffer`.
@@ -170,8 +177,7 @@ pub fn put_line(answer: Result<usize, Refusal>, buffer: &[u8], out: &mut [u8]) -
     ensures put { Put out.old 0 (line (answer_in answer buffer.now)) result out.new }
     ensures upper_bound { result ≤ length out.new }
 {
-    match answer {
-        Ok(n) => put_ok(&buffer[..n], out),
-        Err(refusal) => put_refusal(refusal, out),
-    }
+    let mut w = Writer { out, at: 0 };
+    put_answer(answer, buffer, &mut w);
+    w.at
 }

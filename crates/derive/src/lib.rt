@@ -8,7 +8,8 @@ ghost use Rattle.inst.specs.Values.{Having, HavingAll, EndsAt, EndsAll};
 ghost use Rattle.derive.specs.Derives.{Marked, FrontIs, Tried, type_front, Derives, DerivesAll};
 
 use kind::Scalar;
-use ty::{Head, Limit};
+use record::Writer;
+use ty::{Head, Limit, Size};
 
 // ---- the front of a value's record, which is that of its type: a scalar's kind; a vector's length and kind; a
 // matrix's columns, rows and kind; an array's count; a struct's identity and member count
@@ -142,33 +143,6 @@ pub fn value_front(s: &[u8], at: usize, depth: u8) -> Option<Head>
     None
 }
 
-// The record of a vector's type.
-fn put_vector_type(out: &mut [u8], to: usize, n: u8, k: u8) -> usize
-    requires { Takes out.old to (type_front (Head.Vector n k)) }
-    ensures { Put out.old to (type_front (Head.Vector n k)) result out.new }
-{
-    let p = record::put_three(out, to, b'T', b'v', n);
-    record::put_three(out, p, b'T', b's', k)
-}
-
-// The record of a matrix's type.
-fn put_matrix_type(out: &mut [u8], to: usize, c: u8, r: u8, k: u8) -> usize
-    requires { Takes out.old to (type_front (Head.Matrix c r k)) }
-    ensures { Put out.old to (type_front (Head.Matrix c r k)) result out.new }
-{
-    let p = record::put_four(out, to, b'T', b'm', c, r);
-    record::put_three(out, p, b'T', b's', k)
-}
-
-// The record of a struct's type, up to the members' types.
-fn put_struct_type(out: &mut [u8], to: usize, i: u16, n: u16) -> usize
-    requires { Takes out.old to (type_front (Head.Struct i n)) }
-    ensures { Put out.old to (type_front (Head.Struct i n)) result out.new }
-{
-    let p = record::put_three(out, to, b'T', b'u', record::low(i));
-    record::put_three(out, p, record::high(i), record::low(n), record::high(n))
-}
-
 // How many bytes a type's record has up to its parts' types, by the front of a value.
 fn front_len(f: Head) -> usize
     ensures { result ≡ length (type_front f) }
@@ -183,27 +157,39 @@ fn front_len(f: Head) -> usize
 }
 
 // Those bytes.
-fn write_front(out: &mut [u8], to: usize, f: Head) -> usize
-    requires { Takes out.old to (type_front f) }
-    ensures { Put out.old to (type_front f) result out.new }
+fn write_front(f: Head, w: &mut Writer)
+    requires { Takes w.old.out.now w.old.at (type_front f) }
+    ensures put { Put w.old.out.now w.old.at (type_front f) w.new.at w.new.out.now }
+    ensures same_reference { w.new.out.ghost_name ≡ w.old.out.ghost_name }
 {
     match f {
-        Head::Scalar(k) => record::put_three(out, to, b'T', b's', k),
-        Head::Vector(n, k) => put_vector_type(out, to, n, k),
-        Head::Matrix(c, r, k) => put_matrix_type(out, to, c, r, k),
-        Head::Array(n) => record::put_four(out, to, b'T', b'a', record::low(n), record::high(n)),
-        Head::Struct(i, n) => put_struct_type(out, to, i, n),
+        Head::Scalar(k) => w.put_three(b'T', b's', k),
+        Head::Vector(n, k) => {
+            w.put_three(b'T', b'v', n);
+            w.put_three(b'T', b's', k);
+        }
+        Head::Matrix(c, r, k) => {
+            w.put_four(b'T', b'm', c, r);
+            w.put_three(b'T', b's', k);
+        }
+        Head::Array(n) => w.put_four(b'T', b'a', record::low(n), record::high(n)),
+        Head::Struct(i, n) => {
+            w.put_three(b'T', b'u', record::low(i));
+            w.put_three(record::high(i), record::low(n), record::high(n));
+        }
     }
 }
 
-// The same, if there is room for them.
+// The same, if there is room for them, and the place behind them.
 fn put_type_front(out: &mut [u8], to: usize, f: Head) -> Option<usize>
     ensures { Tried out.old to (type_front f) result out.new }
 {
     if record::room(out, to) < front_len(f) {
         return None;
     }
-    Some(write_front(out, to, f))
+    let mut w = Writer { out, at: to };
+    write_front(f, &mut w);
+    Some(w.at)
 }
 
 // Derives the types of n values, one after another.
@@ -273,7 +259,13 @@ pub fn value_end(s: &[u8], at: usize, depth: u8) -> usize
     match front {
         Head::Scalar(k) => at + record::literal_len(k),
         Head::Vector(n, k) => at + ty::vector_len(n, k),
-        Head::Matrix(c, r, k) => at + ty::matrix_len(c, r, k),
+        Head::Matrix(c, r, k) => {
+            let size = Size {
+                columns: c,
+                rows: r,
+            };
+            at + ty::matrix_len(size, k)
+        }
         Head::Array(n) => {
             let e = value_end(s, at + 4, depth - 1);
             at + 4 + usize::from(n) * (e - (at + 4))

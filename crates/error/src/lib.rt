@@ -7,6 +7,8 @@ ghost use Rattle.error.specs.Told.{Told};
 ghost use Rattle.error.specs.Numbers.{numbers, refused_numbers, in_numbers};
 ghost use Rattle.error.specs.Hand.{handed};
 
+use record::Writer;
+
 // The refusals of documents 01 and 02, each with its words; `number` gives each its number.
 #[derive(Clone, Copy)]
 pub enum Refusal {
@@ -174,5 +176,7 @@ pub fn hand(s: &[u8], out: &mut [u8]) -> Result<usize, Refusal>
     if s.len() > out.len() {
         return Err(Refusal::NoRoom);
     }
-    Ok(record::put_bytes(out, 0, s))
+    let mut w = Writer { out, at: 0 };
+    w.put_bytes(s);
+    Ok(w.at)
 }

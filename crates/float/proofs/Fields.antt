@@ -65,10 +65,11 @@ module _ {p emax w : ℕ} (L : Layout p emax w) (x : ℕ) {f i : ℕ} (F : f ≡
 
     -- with u for the format's unit and h for the leading one
     module _ {u : ℕ} (U : u ≡ unit p emax) where
-      pub at_low : f ≡ 0 → Stands (value p emax x) (Fin (leb a x) t u)
+      pub at_low : f ≡ 0 → Stands (value p emax x) (Fin (leb a x) (record { significand = t; exponent = u }))
       at_low g = record { means = rw U (value_is ∙ smallest p emax (leb a x) t f g); small = omega arith }
 
-      pub at_fin : {h : ℕ} → h ≡ 1 * hid p → (f ≡ i → ⊥) → (f ≡ 0 → ⊥) → Stands (value p emax x) (Fin (leb a x) (h + t) (f - 1 + u))
+      pub at_fin : {h : ℕ} → h ≡ 1 * hid p → (f ≡ i → ⊥) → (f ≡ 0 → ⊥) → Stands (value p emax x)
+          (Fin (leb a x) (record { significand = h + t; exponent = f - 1 + u }))
       at_fin H g z = record {
         means = rw (U, H, one-mul) (value_is ∙ ordinary p emax (leb a x) t f (rw I at g) z);
         small = omega (arith, field_le, L.format);

@@ -100,7 +100,7 @@ module _ (m e l d : ℕ) where
         same l ((m - 1) / 2 ^ (d - e)) (suc (l * 2 ^ (d - e))) m (λ (g : l ≤ (m - 1) / 2 ^ (d - e)). omega (arith, i.0 g))
         (λ (g : l * 2 ^ (d - e) < m). i.1 (omega arith)) ∙ at_down
 
--- ---- `within`, with d for 1074, and `outside`
+-- ---- `within`, with d for 1074, `largest` and `threshold`
 
 pub inside : (l n d : ℕ) {a : ℕ} {b : Bool} → a ≡ l → b ≡ ltb (a * 2 ^ d) n → not b ≡ leb n (l * 2 ^ d)
 inside l n d A B = rw (B, A) (not_less (l * 2 ^ d) n)
@@ -110,6 +110,10 @@ unfolding largest
 largest_is p emax d h =
     rw (one_shl p 64 h) (ap (λ (x : ℕ). (2 ^ p - 1) * x) (pow-add 2 (emax + 1 - p) d)
     ∙ sym (mul_assoc (2 ^ p - 1) (2 ^ (emax + 1 - p)) (2 ^ d)))
+
+pub threshold_is : (p emax : ℕ) → p < 63 → (1 * 2 ^ (p + 1) % 2 ^ 64 - 1) * 2 ^ (emax + 1074 - p) ≡ threshold p emax
+unfolding threshold
+threshold_is p emax h = rw (one_shl (p + 1) 64 (omega arith), add_comm emax 1074)
 
 -- ---- `rounds_finite`: a number below the threshold, and no NaN and no infinity
 
@@ -132,10 +136,8 @@ module _ {p emax : ℕ} (L : Format p emax) (two : 2 ≤ p) (some : 1 ≤ emax) 
       rest true = add-mod_left (top p emax) (ones emax * hid p) ∙ mod-eq_of_lt l
       rest false = rw zero-add (mod-eq_of_lt l)
 
-  pub fin_below : (s : Bool) (n : ℕ) → ltb n ((1 * 2 ^ (p + 1) % 2 ^ 64 - 1) * 2 ^ (emax + 1074 - p)) ≡ finite p emax
-      (bits p emax (fin s n))
-  unfolding threshold
-  fin_below s n = rw (one_shl (p + 1) 64 (omega (arith, L)), add_comm emax 1074) (go (le_or_lt (threshold p emax) n))
+  pub fin_below : (s : Bool) (n : ℕ) → ltb n (threshold p emax) ≡ finite p emax (bits p emax (fin s n))
+  fin_below s n = go (le_or_lt (threshold p emax) n)
     where
       R : Right p emax
       R = right p emax L two some

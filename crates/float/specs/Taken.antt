@@ -3,19 +3,23 @@ use Rattle.std.specs.Prelude.{◌≡◌, ℕ, ◌+◌, ◌*◌, ◌^◌, ◌≤�
 use Rattle.std.proofs.Common.{rules}
 use Rattle.meaning.specs.Floats.{Num, nan, inf, fin}
 use Rattle.laws.proofs.Digits.{Format}
+use Rattle.float.specs.declared.Magnitude.{Magnitude}
 use Rattle.float.specs.declared.Parts.{Parts}
 use Rattle.float.specs.declared.Parts.TheVariants.{Nan, Inf, Fin}
 
--- `Fin s m e` is m * 2 ^ e * 2 ^ -1074, negative where s is true
+abbrev pub size : Magnitude → ℕ
+size x = x.significand * 2 ^ x.exponent
+
+-- `Fin s x` is x * 2 ^ -1074, negative where s is true
 abbrev pub meaning : Parts → Num
 meaning Nan = nan
 meaning (Inf s) = inf s
-meaning (Fin s m e) = fin s (m * 2 ^ e)
+meaning (Fin s x) = fin s (size x)
 
 abbrev pub exponent : Parts → ℕ
 exponent Nan = 0
 exponent (Inf s) = 0
-exponent (Fin s m e) = e
+exponent (Fin s x) = x.exponent
 
 -- the parts are those of the number x, with no larger an exponent than binary64 and whole numbers have
 pub record Stands (x : Num) (r : Parts) : Type 0 where

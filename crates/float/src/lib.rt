@@ -8,7 +8,8 @@ ghost use Rattle.meaning.specs.Floats.{hid, ones, top, closest, packed, bits, va
 ghost use Rattle.meaning.specs.Floats as Floats;
 ghost use Rattle.meaning.specs.Scalars as Scalars;
 ghost use Rattle.laws.proofs.Digits.{Format as IsFormat};
-ghost use Rattle.float.specs.Taken.{Layout, binary16_is, binary32_is, binary64_is, meaning, exponent, Stands};
+ghost use Rattle.laws.proofs.Rounding as Rounding;
+ghost use Rattle.float.specs.Taken.{Layout, binary16_is, binary32_is, binary64_is, size, meaning, exponent, Stands};
 
 // A binary format by its numbers: the digits of its significand with the leading one, and its largest exponent.
 pub trait Format {
@@ -106,13 +107,27 @@ pub struct Whole {
     pub magnitude: u64,
 }
 
-// An exact number taken apart: Fin(s, m, e) is m * 2 ^ e * 2 ^ -1074, negative where s is true. Every float of the
-// three formats is one, and every integer of 64 bits.
+// A magnitude: significand * 2 ^ exponent.
+#[derive(Clone, Copy)]
+pub struct Magnitude {
+    pub significand: u64,
+    pub exponent: u64,
+}
+
+// An exact number taken apart: Fin(s, x) is x * 2 ^ -1074, negative where s is true. Every float of the three formats
+// is one, and every integer of 64 bits.
 #[derive(Clone, Copy)]
 pub enum Parts {
     Nan,
     Inf(bool),
-    Fin(bool, u64, u64),
+    Fin(bool, Magnitude),
+}
+
+// A range of whole numbers, from -low to high.
+#[derive(Clone, Copy)]
+pub struct Range {
+    pub low: u64,
+    pub high: u64,
 }
 
 // ---- bits
@@ -155,10 +170,17 @@ fn largest_field<F: Format>() -> u64
 }
 
 // The sign's bit.
-fn sign<F: Format>(s: bool) -> u64
-    ensures { result ≡ cond s (top F.DIGITS F.EMAX) 0 }
+fn sign_bit<F: Format>() -> u64
+    ensures { result ≡ top F.DIGITS F.EMAX }
 {
-    if s { placed::<F>(2 * F::EMAX + 2) } else { 0 }
+    placed::<F>(2 * F::EMAX + 2)
+}
+
+// The same as a pattern has it: set where the number is negative.
+fn sign<F: Format>(negative: bool) -> u64
+    ensures { result ≡ cond negative (top F.DIGITS F.EMAX) 0 }
+{
+    if negative { sign_bit::<F>() } else { 0 }
 }
 
 // The format's smallest positive value is 2 ^ unit, where 1 is 2 ^ -1074: binary64's own.
@@ -181,7 +203,7 @@ fn infinity<F: Format>() -> u64
 pub fn unpack<F: Pattern>(x: u64) -> Parts
     ensures { Stands (value F.DIGITS F.EMAX x) result }
 {
-    let s = sign::<F>(true) <= x;
+    let s = sign_bit::<F>() <= x;
     let f = field::<F>(x);
     let t = fraction::<F>(x);
     if f == largest_field::<F>() {
@@ -192,11 +214,35 @@ pub fn unpack<F: Pattern>(x: u64) -> Parts
     }
     let u = unit::<F>();
     if f == 0 {
-        return Parts::Fin(s, t, u);
+        return Parts::Fin(
+            s,
+            Magnitude {
+                significand: t,
+                exponent: u,
+            },
+        );
     }
     let m = placed::<F>(1) + t;
     let e = f - 1 + u;
-    Parts::Fin(s, m, e)
+    Parts::Fin(
+        s,
+        Magnitude {
+            significand: m,
+            exponent: e,
+        },
+    )
+}
+
+impl Magnitude {
+    // The whole number n, in the unit of `Parts`, 2 ^ -1074.
+    fn whole(n: u64) -> Self
+        ensures { result ≡ record { significand = n; exponent = 1074 } }
+    {
+        Magnitude {
+            significand: n,
+            exponent: 1074,
+        }
+    }
 }
 
 // The number m.
@@ -216,7 +262,7 @@ impl From<Whole> for Parts {
     ghost from_gives = { λ n v. Stands (integer n.negative n.magnitude) v };
 
     fn from(n: Whole) -> Parts {
-        Parts::Fin(n.negative, n.magnitude, 1074)
+        Parts::Fin(n.negative, Magnitude::whole(n.magnitude))
     }
 }
 
@@ -246,44 +292,47 @@ fn round_shift(m: u64, sh: u64) -> u64
     if rest + (q & 1) > half { q + 1 } else { q }
 }
 
-// m * 2 ^ e / 2 ^ d to the nearest whole number.
-fn scaled(m: u64, e: u64, d: u64) -> u64
-    requires { d ≤ e → (e - d < 64) × (m * 2 ^ (e - d) < 2 ^ 64) }
-    ensures { result ≡ closest (m * 2 ^ e) (2 ^ d) }
-{
-    if d <= e {
-        m << (e - d)
-    } else {
-        round_shift(m, d - e)
+impl Magnitude {
+    // Divided by 2 ^ d, to the nearest whole number.
+    fn scaled(self, d: u64) -> u64
+        requires { d ≤ self.exponent
+            → (self.exponent - d < 64) × (self.significand * 2 ^ (self.exponent - d) < 2 ^ 64) }
+        ensures { result ≡ closest (size self) (2 ^ d) }
+    {
+        if d <= self.exponent {
+            self.significand << (self.exponent - d)
+        } else {
+            round_shift(self.significand, d - self.exponent)
+        }
     }
-}
 
-// How many places the format drops of m * 2 ^ e: it keeps DIGITS digits, and none below its smallest value. The digits
-// of m * 2 ^ e are counted by the place of the leading one bit of an integer's magnitude, which its leading zeros tell;
-// the count gives the exponent and the shift.
-fn dropped<F: Format>(m: u64, e: u64) -> u64
-    requires { (0 < m) × (e < 2100) }
-    ensures value { result ≡ Floats.dropped F.DIGITS F.EMAX (m * 2 ^ e) }
-    ensures upper_bound { result < 2164 }
-{
-    let digits = 64 - (u64::leading_zeros(m) as u64) + e;
-    digits.saturating_sub(unit::<F>()).saturating_sub(F::DIGITS)
-}
-
-// The pattern, without its sign, of the value of the format nearest to m * 2 ^ e * 2 ^ -1074. Of the digits kept the
-// leading one adds one to the field, and a carry goes into the field too, as it should; from the infinity's pattern on
-// it is the infinity.
-fn pack<F: Format>(m: u64, e: u64) -> u64
-    requires { e < 2100 }
-    ensures { result ≡ packed F.DIGITS F.EMAX (m * 2 ^ e) }
-{
-    if m == 0 {
-        return 0;
+    // How many places the format drops: it keeps DIGITS digits, and none below its smallest value. The digits are
+    // counted by the place of the leading one bit of an integer's magnitude, which its leading zeros tell; the count
+    // gives the exponent and the shift.
+    fn dropped<F: Format>(self) -> u64
+        requires { (0 < self.significand) × (self.exponent < 2100) }
+        ensures value { result ≡ Floats.dropped F.DIGITS F.EMAX (size self) }
+        ensures upper_bound { result < 2164 }
+    {
+        let digits = 64 - (u64::leading_zeros(self.significand) as u64) + self.exponent;
+        digits.saturating_sub(unit::<F>()).saturating_sub(F::DIGITS)
     }
-    let k = dropped::<F>(m, e);
-    let u = unit::<F>();
-    let q = scaled(m, e, u + k);
-    (placed::<F>(k) + q).min(infinity::<F>())
+
+    // The pattern, without its sign, of the value of the format nearest to the magnitude in units of 2 ^ -1074. Of the
+    // digits kept the leading one adds one to the field, and a carry goes into the field too, as it should; from the
+    // infinity's pattern on it is the infinity.
+    fn pack<F: Format>(self) -> u64
+        requires { self.exponent < 2100 }
+        ensures { result ≡ packed F.DIGITS F.EMAX (size self) }
+    {
+        if self.significand == 0 {
+            return 0;
+        }
+        let k = self.dropped::<F>();
+        let u = unit::<F>();
+        let q = self.scaled(u + k);
+        (placed::<F>(k) + q).min(infinity::<F>())
+    }
 }
 
 // The pattern of the value nearest to a number, by one rounding; the NaN made has the sign clear and the fraction's
@@ -296,7 +345,7 @@ fn assemble<F: Format>(v: Parts) -> u64
     match v {
         Parts::Nan => infinity::<F>() + (placed::<F>(1) >> 1),
         Parts::Inf(s) => sign::<F>(s) + infinity::<F>(),
-        Parts::Fin(s, m, e) => sign::<F>(s) + pack::<F>(m, e),
+        Parts::Fin(s, x) => sign::<F>(s) + x.pack::<F>(),
     }
 }
 
@@ -321,96 +370,105 @@ pub fn of_int<F: Format>(n: Whole) -> u64
 
 // ---- from parts to integers
 
-// The end of the range from -lo to hi on the side of the sign.
-fn end(lo: u64, hi: u64, s: bool) -> u64
-    ensures { result ≡ cond s lo hi }
-{
-    if s { lo } else { hi }
+impl Range {
+    // Its end on the side of the sign.
+    fn end(self, negative: bool) -> u64
+        ensures { result ≡ cond negative self.low self.high }
+    {
+        if negative { self.low } else { self.high }
+    }
 }
 
-// m * 2 ^ e * 2 ^ -1074, cut to a whole number, and the limit where that is smaller.
-fn cut(m: u64, e: u64, limit: u64) -> u64
-    ensures { result ≡ min (m * 2 ^ e / 2 ^ 1074) limit }
-{
-    if e < 1074 {
-        let down = 1074 - e;
-        if down > 63 {
+impl Magnitude {
+    // In units of 2 ^ -1074, cut to a whole number, and the limit where that is smaller.
+    fn cut(self, limit: u64) -> u64
+        ensures { result ≡ min (size self / 2 ^ 1074) limit }
+    {
+        let m = self.significand;
+        let e = self.exponent;
+        if e < 1074 {
+            let down = 1074 - e;
+            if down > 63 {
+                return 0;
+            }
+            return (m >> down).min(limit);
+        }
+        let up = e - 1074;
+        if m == 0 {
             return 0;
         }
-        return (m >> down).min(limit);
+        if up > 63 {
+            return limit;
+        }
+        if (limit >> up) < m {
+            return limit;
+        }
+        m << up
     }
-    let up = e - 1074;
-    if m == 0 {
-        return 0;
-    }
-    if up > 63 {
-        return limit;
-    }
-    if (limit >> up) < m {
-        return limit;
-    }
-    m << up
 }
 
-// The whole number n, negative where s is true, as the payload of an i32 or a u32: two's complement of 32 bits.
-fn wrap(s: bool, n: u64) -> u64
-    requires { n ≤ cond s (2 ^ 32) (2 ^ 32 - 1) }
-    ensures value { result ≡ Scalars.wrap s n }
+// The whole number n as the payload of an i32 or a u32: two's complement of 32 bits.
+fn wrap(negative: bool, n: u64) -> u64
+    requires { n ≤ cond negative (2 ^ 32) (2 ^ 32 - 1) }
+    ensures value { result ≡ Scalars.wrap negative n }
     ensures upper_bound { result < 2 ^ 32 }
 {
-    if s {
+    if negative {
         (0x1_0000_0000 - n) % 0x1_0000_0000
     } else {
         n
     }
 }
 
-// `x as i32` and `x as u32` of a float, and held between -lo and hi besides: toward zero, to the nearest end of the
-// range, and 0 for a NaN.
-pub fn toward(lo: u64, hi: u64, v: Parts) -> u64
-    requires { (lo ≤ 2 ^ 32) × (hi < 2 ^ 32) }
-    ensures value { result ≡ Scalars.toward lo hi (meaning v) }
+// `x as i32` and `x as u32` of a float, and held within a range besides: toward zero, to the nearest end of the range,
+// and 0 for a NaN.
+pub fn toward(range: Range, v: Parts) -> u64
+    requires { (range.low ≤ 2 ^ 32) × (range.high < 2 ^ 32) }
+    ensures value { result ≡ Scalars.toward range.low range.high (meaning v) }
     ensures upper_bound { result < 2 ^ 32 }
 {
     match v {
         Parts::Nan => 0,
-        Parts::Inf(s) => wrap(s, end(lo, hi, s)),
-        Parts::Fin(s, m, e) => wrap(s, cut(m, e, end(lo, hi, s))),
+        Parts::Inf(s) => wrap(s, range.end(s)),
+        Parts::Fin(s, x) => wrap(s, x.cut(range.end(s))),
     }
 }
 
 // ---- ranges
 
-// Whether m * 2 ^ e is more than limit * 2 ^ d. The larger exponent would shift its side up, past 64 bits; the other
-// side is shifted down instead, and the test is the same for whole numbers.
-fn beyond(m: u64, e: u64, limit: u64, d: u64) -> bool
-    ensures { result ≡ ltb (limit * 2 ^ d) (m * 2 ^ e) }
-{
-    if m == 0 {
-        return false;
-    }
-    if d <= e {
-        let up = e - d;
-        if up > 63 {
-            return true;
+impl Magnitude {
+    // Whether it is more than a limit. The larger exponent would shift its side up, past 64 bits; the other side is
+    // shifted down instead, and the test is the same for whole numbers.
+    fn beyond(self, limit: Magnitude) -> bool
+        ensures { result ≡ ltb (size limit) (size self) }
+    {
+        let m = self.significand;
+        if m == 0 {
+            return false;
         }
-        return (limit >> up) < m;
+        if limit.exponent <= self.exponent {
+            let up = self.exponent - limit.exponent;
+            if up > 63 {
+                return true;
+            }
+            return (limit.significand >> up) < m;
+        }
+        let down = limit.exponent - self.exponent;
+        if down > 63 {
+            return limit.significand == 0;
+        }
+        limit.significand <= ((m - 1) >> down)
     }
-    let down = d - e;
-    if down > 63 {
-        return limit == 0;
-    }
-    limit <= ((m - 1) >> down)
 }
 
-// Whether a number lies within -lo and hi: where `to_i32` and `to_u32` of an i64 give something.
-pub fn within(lo: u64, hi: u64, v: Parts) -> bool
-    ensures { result ≡ Scalars.within lo hi (meaning v) }
+// Whether a number lies within a range: where `to_i32` and `to_u32` of an i64 give something.
+pub fn within(range: Range, v: Parts) -> bool
+    ensures { result ≡ Scalars.within range.low range.high (meaning v) }
 {
     match v {
         Parts::Nan => false,
         Parts::Inf(_) => false,
-        Parts::Fin(s, m, e) => !beyond(m, e, end(lo, hi, s), 1074),
+        Parts::Fin(s, x) => !x.beyond(Magnitude::whole(range.end(s))),
     }
 }
 
@@ -421,7 +479,7 @@ pub fn nonzero(v: Parts) -> bool
     match v {
         Parts::Nan => true,
         Parts::Inf(_) => true,
-        Parts::Fin(_, m, _) => 0 < m,
+        Parts::Fin(_, x) => 0 < x.significand,
     }
 }
 
@@ -432,8 +490,29 @@ pub fn is_finite<F: Pattern>(b: u64) -> bool
     field::<F>(b) < largest_field::<F>()
 }
 
-// Whether a number is past the format's largest finite value, on either side, or no number: `!range.contains(n)`. That
-// value is DIGITS ones with EMAX + 1 - DIGITS places below them.
+// The format's largest finite value: DIGITS ones, with EMAX + 1 - DIGITS places below them.
+fn largest<F: Format>() -> Magnitude
+    requires { F.DIGITS ≤ F.EMAX + 1 }
+    ensures { size result ≡ Floats.largest F.DIGITS F.EMAX * 2 ^ 1074 }
+{
+    Magnitude {
+        significand: (1 << F::DIGITS) - 1,
+        exponent: F::EMAX + 1 - F::DIGITS + 1074,
+    }
+}
+
+// Half a last place past it: DIGITS + 1 ones, with EMAX - DIGITS places below them. There is a tie there, and the even
+// neighbour is the infinity.
+fn threshold<F: Format>() -> Magnitude
+    ensures { size result ≡ Rounding.threshold F.DIGITS F.EMAX }
+{
+    Magnitude {
+        significand: (1 << (F::DIGITS + 1)) - 1,
+        exponent: F::EMAX + 1074 - F::DIGITS,
+    }
+}
+
+// Whether a number is past the format's largest finite value, on either side, or no number: `!range.contains(n)`.
 pub fn outside<F: Format>(v: Parts) -> bool
     requires { F.DIGITS ≤ F.EMAX + 1 }
     ensures { result ≡ Floats.outside F.DIGITS F.EMAX (meaning v) }
@@ -441,13 +520,11 @@ pub fn outside<F: Format>(v: Parts) -> bool
     match v {
         Parts::Nan => true,
         Parts::Inf(_) => true,
-        Parts::Fin(_, m, e) => beyond(m, e, (1 << F::DIGITS) - 1, F::EMAX + 1 - F::DIGITS + 1074),
+        Parts::Fin(_, x) => x.beyond(largest::<F>()),
     }
 }
 
-// Whether the nearest value of the format is finite, told without making its pattern. It is finite below the threshold,
-// half a last place past the largest value: at the threshold there is a tie, and the even neighbour is the infinity.
-// The threshold is DIGITS + 1 ones with EMAX - DIGITS places below them.
+// Whether the nearest value of the format is finite, told without making its pattern: it is finite below the threshold.
 pub fn rounds_finite<F: Format>(v: Parts) -> bool
     requires { (2 ≤ F.DIGITS) × (1 ≤ F.EMAX) }
     ensures { result ≡ Floats.finite F.DIGITS F.EMAX (bits F.DIGITS F.EMAX (meaning v)) }
@@ -455,6 +532,6 @@ pub fn rounds_finite<F: Format>(v: Parts) -> bool
     match v {
         Parts::Nan => false,
         Parts::Inf(_) => false,
-        Parts::Fin(_, m, e) => beyond((1 << (F::DIGITS + 1)) - 1, F::EMAX + 1074 - F::DIGITS, m, e),
+        Parts::Fin(_, x) => threshold::<F>().beyond(x),
     }
 }

@@ -12,7 +12,7 @@ ghost use Rattle.inst.specs.Values.{Fits};
 ghost use Rattle.inst.specs.Reading.{most, KindIs, Literals, LiteralAt, VectorAt, Columns, MatrixAt, ReadAs, ReadEach};
 ghost use Rattle.inst.specs.Reading.{ReadAll};
 
-use ty::Head;
+use ty::{Head, Size};
 
 // The greatest payload of a kind: "unused high bytes are zero; Bool is 0 or 1". A payload's range is said here only.
 #[tactic(auto, unfolding(kind::specs::Ends::of_kind, meaning::specs::Kinds::kind_of, meaning::specs::Kinds::payloads, crate::specs::Reading::most))]
@@ -119,14 +119,14 @@ fn columns(s: &[u8], at: usize, n: u16, r: u8, k: u8) -> Option<usize>
 }
 
 // The end of the matrix that stands at `at`.
-pub fn matrix_as(s: &[u8], at: usize, c: u8, r: u8, k: u8) -> Option<usize>
+pub fn matrix_as(s: &[u8], at: usize, size: Size, k: u8) -> Option<usize>
     requires { T (kind_number k) }
-    ensures { MatrixAt s.now at c r k result }
+    ensures { MatrixAt s.now at size.columns size.rows k result }
 {
-    if !four_at(s, at, b'm', c, r) {
+    if !four_at(s, at, b'm', size.columns, size.rows) {
         return None;
     }
-    columns(s, at + 4, u16::from(c), r, k)
+    columns(s, at + 4, u16::from(size.columns), size.rows, k)
 }
 
 // The end of n values of the type that stands at `o`.
@@ -190,7 +190,13 @@ pub fn value_as(s: &[u8], at: usize, ty: &[u8], o: usize, depth: u8) -> Option<(
     match ty::head_at(t, o, depth) {
         Head::Scalar(k) => Some((literal_as(u, at, k)?, o + 3)),
         Head::Vector(n, k) => Some((vector_as(u, at, n, k)?, o + 6)),
-        Head::Matrix(c, r, k) => Some((matrix_as(u, at, c, r, k)?, o + 7)),
+        Head::Matrix(c, r, k) => {
+            let size = Size {
+                columns: c,
+                rows: r,
+            };
+            Some((matrix_as(u, at, size, k)?, o + 7))
+        }
         Head::Array(n) => {
             if !four_at(u, at, b'a', record::low(n), record::high(n)) {
                 return None;

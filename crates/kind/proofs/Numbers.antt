@@ -9,9 +9,12 @@ use lib.Dec.{eqb}
 use lib.ListN.{length, get_elem?}
 use borrow.Author.Tests.{ne_eqb}
 use Rattle.meaning.specs.Kinds.{Kind, bool, aint, afloat, i32, u32, f32, f16, kind_no, kind_of, same_kind, pay_width}
+use Rattle.meaning.specs.Kinds.{is_float, is_abstract}
+use Rattle.meaning.specs.Layout.{laid_kind, scalar_size}
+use Rattle.meaning.specs.Floats.{largest}
 use Rattle.laws.proofs.AgreeLit.{kind_back}
 use Rattle.laws.proofs.Sound.{kind_no_lem}
-use Rattle.kind.specs.Ends.{of_kind, numbered}
+use Rattle.kind.specs.Ends.{of_kind, numbered, known, low, high}
 
 past : {A : Type 0} (l : List A) (i : ℕ) → length l ≤ i → get_elem? l i ≡ none
 past [] i h = refl
@@ -21,6 +24,11 @@ past (a ∷ l) (suc i) h = past l i (omega arith)
 pub no_kind : (n : ℕ) → 7 ≤ n → kind_of n ≡ none
 unfolding kind_of
 no_kind n h = past (bool ∷ aint ∷ afloat ∷ i32 ∷ u32 ∷ f32 ∷ f16 ∷ []) n h
+
+-- opens what a table over kinds computes by: a function that is one names this word for its goals
+unfoldable pub table : ℕ → Option Kind
+unfolding of_kind kind_of kind_no same_kind is_float is_abstract pay_width laid_kind scalar_size largest known low high
+table = kind_of
 
 -- what a `match` on the seven numbers knows in its last arm
 abbrev pub Others : ℕ → Type 0

@@ -12,6 +12,7 @@ pub struct Scalar {
     pub kind: u8,
 }
 
+#[tactic(auto, using(crate::proofs::Numbers::no_kind), unfolding(crate::proofs::Numbers::table))]
 impl Scalar {
     // "The kind numbers belong to the scalar kind and are written once": here.
     pub const BOOL: u8 = 0;

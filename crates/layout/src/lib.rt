@@ -4,7 +4,7 @@
 ghost use Rattle.std.specs.Prelude.{◌≡◌, ◌+◌, ◌-◌, ◌*◌, ◌≤◌, ◌<◌, length};
 ghost use Rattle.meaning.specs.Trees.{Ty};
 ghost use Rattle.meaning.specs.Layout.{has_layout, vec_align, round_up, layout_answer};
-ghost use Rattle.ty.specs.Stands.{Whole, OneType, Standing, StandingAll};
+ghost use Rattle.ty.specs.Stands.{Whole, Standing, StandingAll};
 ghost use Rattle.record.specs.Literals.{Sized};
 ghost use Rattle.memory.specs.Sizes.{Align};
 ghost use Rattle.layout.specs.Laid.{KindLaid, LaidAt, LaidAll, paper, LaidTold};
@@ -12,7 +12,7 @@ ghost use Rattle.layout.specs.Extents.{past_of, Times, Rounds, ScalarExtent, Vec
 
 use error::Refusal;
 use kind::Scalar;
-use ty::{Head, Limit, Target};
+use ty::{Head, Limit, Target, Type};
 
 // Where a type's record ends, and the size and the alignment of the type.
 #[derive(Clone, Copy)]
@@ -73,11 +73,10 @@ fn walk_laid(ty: &[u8], at: usize, depth: u8) -> Option<usize>
 }
 
 // Whether the type has a layout: "a type that holds Bool, an abstract kind" has none.
-pub fn has_layout(ty: &[u8]) -> bool
-    requires { OneType ty.now }
-    ensures { (t : Ty) → Whole ty.now t → result ≡ has_layout t }
+pub fn has_layout(ty: Type) -> bool
+    ensures { (t : Ty) → Whole ty.entry.bytes.now t → result ≡ has_layout t }
 {
-    walk_laid(ty, 0, Limit::DEPTH).is_some()
+    walk_laid(ty.bytes, 0, Limit::DEPTH).is_some()
 }
 
 // ---- alignment and size
@@ -209,19 +208,19 @@ fn walk_extent(ty: &[u8], at: usize, depth: u8, pads: &mut [u8]) -> Option<Exten
 }
 
 // The same of a whole record.
-pub fn measure(ty: &[u8], pads: &mut [u8]) -> Option<Extent>
-    requires { OneType ty.now × (length ty.now ≤ length pads.old) }
-    ensures { Extends 15 ty.now 0 pads.old result pads.new }
+pub fn measure(ty: Type, pads: &mut [u8]) -> Option<Extent>
+    requires { length ty.bytes.now ≤ length pads.old }
+    ensures { Extends 15 ty.entry.bytes.now 0 pads.old result pads.new }
 {
-    walk_extent(ty, 0, Limit::DEPTH, pads)
+    walk_extent(ty.bytes, 0, Limit::DEPTH, pads)
 }
 
 // ---- the entry
 
-// Of a type, whose record the target is.
-fn layout_of_type(target: &[u8]) -> Result<Layout, Refusal>
-    requires { OneType target.now × (length target.now ≤ 4096) }
-    ensures { LaidTold target.now result }
+// Of a type, whose record has 4,096 bytes at most.
+fn layout_of_type(target: Type) -> Result<Layout, Refusal>
+    requires { length target.bytes.now ≤ 4096 }
+    ensures { LaidTold target.entry.bytes.now result }
 {
     if !has_layout(target) {
         return Err(Refusal::NoLayout);
@@ -241,7 +240,7 @@ pub fn layout_of(target: &[u8]) -> Result<Layout, Refusal>
 {
     let found = ty::read_target(target).ok_or(Refusal::BadTarget)?;
     match found {
-        Target::Type => layout_of_type(target),
+        Target::Type => layout_of_type(Type { bytes: target }),
         Target::Runtime => Err(Refusal::NoLayout),
         _ => Err(Refusal::BadTarget),
     }

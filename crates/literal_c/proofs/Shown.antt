@@ -2,7 +2,6 @@
 use mathlib.Core.Path.{◌≡◌, refl, sym}
 use mathlib.Core.Option.{Option as Maybe, none, some}
 use Prim.Native.Nat.{ℕ}
-use native.Mathlib.Omega.{arith}
 use Rattle.meaning.specs.Entries.{stage_of}
 use Rattle.literal.specs.LiteralAnswers.{converted_of, staged_of, Made, paper, WhenTo}
 use Rattle.literal.specs.declared.Rules.{Rules}
@@ -17,7 +16,6 @@ use Rattle.std.specs.Result.{result_unwrap_or}
 use Rattle.error.specs.Refusals.{refusal}
 use Rattle.error.proofs.Refusals.{Told, plain, counted, told}
 use Rattle.std.specs.declared.option.Option.{Option}
-use Rattle.std.specs.declared.option.Option.TheVariants.{None, Some}
 
 -- 0 where there is nothing
 pub nothing_0 : (o : Maybe ℕ) {r : Option ℕ} → r ≡ converted_of o → unwrap_or r 0 ≡ or_zero o

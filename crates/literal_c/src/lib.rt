@@ -1,4 +1,5 @@
-// One literal, for programs in other languages that compare with the machine's own conversions: numbers in, one number out.
+// One literal, for programs in other languages that compare with the machine's own conversions: numbers in, one number
+// out.
 #![tactic(auto)]
 
 ghost use Rattle.std.specs.Prelude.{◌≡◌};
@@ -11,6 +12,7 @@ ghost use Rattle.literal_c.specs.LiteralNumbers.{or_zero, payload_of, ctor_betwe
 
 use error::Refusal;
 use float::{Binary16, Binary32, Binary64};
+use literal::Literal;
 
 #[unsafe(no_mangle)]
 pub extern "C" fn vireo_f64_to_f32(x: u64) -> u64
@@ -45,7 +47,7 @@ pub extern "C" fn vireo_f16_to_f32(x: u64) -> u64
 pub extern "C" fn vireo_fits(to: u8, from: u8, bits: u64) -> bool
     ensures { result ≡ some? (conv_between to from bits) }
 {
-    literal::literal_fits(to, from, bits)
+    Literal { kind: from, bits }.fits(to)
 }
 
 // The literal converted, or 0 where it does not fit.
@@ -53,15 +55,15 @@ pub extern "C" fn vireo_fits(to: u8, from: u8, bits: u64) -> bool
 pub extern "C" fn vireo_converted(to: u8, from: u8, bits: u64) -> u64
     ensures { result ≡ or_zero (conv_between to from bits) }
 {
-    literal::convert_literal(to, from, bits).unwrap_or(0)
+    Literal { kind: from, bits }.convert_to(to).unwrap_or(0)
 }
 
 // What the constructor makes of a literal at a stage.
-fn made(stage: u8, to: u8, from: u8, bits: u64) -> Result<u64, Refusal>
-    ensures { refusals.paper result ≡ ctor_between stage to from bits }
+fn made(stage: u8, to: u8, from: Literal) -> Result<u64, Refusal>
+    ensures { refusals.paper result ≡ ctor_between stage to from.kind from.bits }
 {
     let rules = literal::rules_at(stage)?;
-    let payload = literal::construct_literal(rules, to, from, bits)?;
+    let payload = from.construct(rules, to)?;
     Ok(payload)
 }
 
@@ -70,7 +72,7 @@ fn made(stage: u8, to: u8, from: u8, bits: u64) -> Result<u64, Refusal>
 pub extern "C" fn vireo_made(stage: u8, to: u8, from: u8, bits: u64) -> u64
     ensures { result ≡ payload_of (ctor_between stage to from bits) }
 {
-    made(stage, to, from, bits).unwrap_or(0)
+    made(stage, to, Literal { kind: from, bits }).unwrap_or(0)
 }
 
 // The number of its refusal, or 0 where there is none.
@@ -78,7 +80,7 @@ pub extern "C" fn vireo_made(stage: u8, to: u8, from: u8, bits: u64) -> u64
 pub extern "C" fn vireo_refusal(stage: u8, to: u8, from: u8, bits: u64) -> u8
     ensures { result ≡ refusal_of (ctor_between stage to from bits) }
 {
-    match made(stage, to, from, bits) {
+    match made(stage, to, Literal { kind: from, bits }) {
         Ok(_) => 0,
         Err(refusal) => refusal.number(),
     }

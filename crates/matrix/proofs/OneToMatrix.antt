@@ -1,7 +1,7 @@
 -- One argument: whether it is a matrix, and of which size.
 use mathlib.Core.Path.{◌≡◌, refl, sym, ap, ◌∙◌, subst}
 use mathlib.Core.List.{List, [], ◌∷◌}
-use mathlib.Core.Bool.{true, false, ◌&&◌}
+use mathlib.Core.Bool.{Bool, true, false, not, ◌&&◌}
 use Prim.Native.Nat.{ℕ, ◌+◌, ◌*◌, ◌≤◌, ◌<◌}
 use native.Mathlib.Omega.{arith}
 use borrow.Author.Tests.{eq-eqb}
@@ -85,6 +85,16 @@ module _ {s : List ℕ} {v : Val} (x : Row s 0 (v ∷ [])) (c r : ℕ) (h : get_
 
 -- ---- a matrix
 
+-- what is asked about the size of the argument is whether it is the same
+module _ (s : List ℕ) (c r : ℕ) {a d : ℕ} (columns : a ≡ get_or s 2 0) (rows : d ≡ get_or s 3 0) {b : Bool} (e : b ≡ not (eqb a c && eqb d r)) where
+  pub same_told : same_size c r (get_or s 2 0) (get_or s 3 0) ≡ not b
+  unfolding same_size
+  same_told = rw (sym columns, sym rows) (go (eqb a c && eqb d r) e)
+    where
+      go : (z : Bool) → b ≡ not z → z ≡ not b
+      go true f = rw f refl
+      go false f = rw f refl
+
 pub record MatrixIs (s : List ℕ) (v : Val) : Type 0 where
   pub kind : Kind
   pub pays : List ℕ
@@ -100,7 +110,6 @@ module _ {s : List ℕ} {v : Val} (x : Row s 0 (v ∷ [])) (h : get_or s 1 0 ≡
       record { kind = z.kind; pays = z.pays; is = rw (y.across, y.down) z.is; room = omega (arith, y.room) }
 
   module _ (c r : ℕ) where
-    -- what `same_size_lem` says
     module _ (f : same_size c r (get_or s 2 0) (get_or s 3 0) ≡ false) where
       pub mat_unequal : (t : Stage) (k : Kind) → mat_one t c r k v ≡ no 7
       unfolding mat_one

@@ -9,43 +9,37 @@ use Rattle.meaning.specs.Convert.{conv_val, conv_lits, common, float_kind}
 use Rattle.meaning.specs.Build.{ctor_lit, mat_shape, payloads_of_all, lit_kind, mat_parts, mat_one, qm_parts, qm_one}
 use Rattle.literal.specs.LiteralAnswers.{rules_of}
 use Rattle.literal.specs.declared.Rules.{Rules}
-use Rattle.ty.specs.Stands.{Stands}
+use Rattle.ty.specs.Stands.{Whole}
 use Rattle.shape.specs.Kinds.{found_of}
-use Rattle.args.specs.Row.{Row}
+use Rattle.args.specs.Row.{Row, Given}
+use Rattle.common_type.specs.CommonTypes.{CommonIs}
 use Rattle.scalar.specs.Made.{Ctor}
 use Rattle.error.specs.Told.{Builds}
 use Rattle.std.specs.declared.option.Option.TheVariants.{Some}
 use Rattle.error.specs.Told.{Written}
 
--- at least one argument, and how many there are
-pub record SomeFirst (s : List ℕ) (count : ℕ) : Type 0 where
-  pub value : Val
-  pub others : List Val
-  pub row : Row s 0 (value ∷ others)
-  pub size : count ≡ length (value ∷ others)
-
 -- the kind one level down in the first one's type, "or in its place if it is a scalar", is the one whose number is i;
 -- ty is the record of that type with k there
 pub record FirstAs (k i : ℕ) (ty s : List ℕ) : Type 0 where
   pub down : (v : Val) (l : List Val) → Row s 0 (v ∷ l) → Some i ≡ found_of (lit_kind (inner (type_of v)))
-  pub stands : (j : Kind) (v : Val) (l : List Val) → k ≡ kind_no j → Row s 0 (v ∷ l) → Stands 15 ty 0 (set_leaf j (type_of v)) (length ty)
+  pub stands : (j : Kind) (v : Val) (l : List Val) → k ≡ kind_no j → Row s 0 (v ∷ l) → Whole ty (set_leaf j (type_of v))
 
 -- ---- a matrix type
 
--- the type u, whose kind is j, stands in ty; the arguments are l
-pub record To (k : ℕ) (ty s : List ℕ) (count : ℕ) (j : Kind) (u : Ty) (l : List Val) : Type 0 where
-  pub no : k ≡ kind_no j
-  pub end : ℕ
-  pub stands : Stands 15 ty 0 u end
-  pub bottom : leaf u ≡ some j
-  pub row : Row s 0 l
-  pub size : count ≡ length l
-
-pub record SomeTo (k : ℕ) (ty s : List ℕ) (count : ℕ) : Type 0 where
+-- ty is a type's record, at whose bottom is the kind whose number is k
+pub record Bottom (k : ℕ) (ty : List ℕ) : Type 0 where
   pub kind : Kind
   pub type : Ty
-  pub values : List Val
-  pub to : To k ty s count kind type values
+  pub no : k ≡ kind_no kind
+  pub whole : Whole ty type
+  pub bottom : leaf type ≡ some kind
+
+-- ty is the record of the type u, whose kind is j; the arguments are l
+pub record To (k : ℕ) (ty s : List ℕ) (count : ℕ) (j : Kind) (u : Ty) (l : List Val) : Type 0 where
+  pub no : k ≡ kind_no j
+  pub whole : Whole ty u
+  pub bottom : leaf u ≡ some j
+  pub given : Given s count l
 
 -- "all convert to that (10), rows (14), columns or c × r scalars (8), 13"
 unfoldable pub mat_to : ℕ → ℕ → Kind → Ty → List Val → Result Val
@@ -80,18 +74,15 @@ MatOne rules c r k src out x out' = (s : Stage) (j : Kind) (v : Val) → rules �
 
 -- ---- `Qm`
 
--- the arguments are l, and their common type t stands in ty
-pub record Typed (ty s : List ℕ) (count : ℕ) (t : Ty) (l : List Val) : Type 0 where
-  pub end : ℕ
-  pub stands : Stands 15 ty 0 t end
-  pub is : common (map type_of l) ≡ some t
-  pub row : Row s 0 l
-  pub size : count ≡ length l
+-- ty is the record of the arguments' common type
+abbrev pub Common : List ℕ → List ℕ → Type 0
+Common ty s = (l : List Val) → Row s 0 l → CommonIs (common (map type_of l)) ty
 
-pub record SomeTyped (ty s : List ℕ) (count : ℕ) : Type 0 where
-  pub type : Ty
-  pub values : List Val
-  pub typed : Typed ty s count type values
+-- the arguments are l, and ty is the record of their common type t
+pub record Typed (ty s : List ℕ) (count : ℕ) (t : Ty) (l : List Val) : Type 0 where
+  pub whole : Whole ty t
+  pub is : common (map type_of l) ≡ some t
+  pub given : Given s count l
 
 -- "float (13); conversion (10); rows (14); count (8); 13"
 unfoldable pub qm_to : ℕ → ℕ → Ty → List Val → Result Val

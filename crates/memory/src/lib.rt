@@ -8,19 +8,19 @@ ghost use Rattle.memory.specs.Sizes.{size_no};
 
 use kind::Scalar;
 
-// Where what is read and what is written have come to.
+// What a walk over a value reads: its type's record, the table of the padding inside the type, and the value's bytes.
 #[derive(Clone, Copy)]
-pub struct Through {
-    pub from: usize,
-    pub out: usize,
+pub struct Source<'a> {
+    pub ty: &'a [u8],
+    pub pads: &'a [u8],
+    pub bytes: &'a [u8],
 }
 
-// The same, and the type's record.
+// Where in them a walk has come to: in the type's record, and in the value's bytes.
 #[derive(Clone, Copy)]
-pub struct Moved {
+pub struct Places {
     pub ty: usize,
     pub from: usize,
-    pub out: usize,
 }
 
 // The bytes that a scalar of the kind takes in memory.

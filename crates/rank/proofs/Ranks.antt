@@ -3,12 +3,12 @@ use mathlib.Core.Path.{◌≡◌, refl, sym, ap, ap₂, ◌∙◌, subst}
 use mathlib.Core.Option.{Option, none, some}
 use mathlib.Core.List.{List, [], ◌∷◌, ◌++◌, append-nil}
 use mathlib.Core.Bool.{Bool, true, false, ◌&&◌, cond}
-use Prim.Native.Nat.{ℕ, ◌-◌, ◌/◌, ◌%◌, ◌^◌, ◌≤◌, ◌<◌}
+use Prim.Native.Nat.{ℕ, ◌-◌, ◌/◌, ◌%◌, ◌^◌, ◌≤◌}
 use native.Mathlib.Omega.{arith}
 use lib.Dec.{T, leb, eqb}
 use lib.ListN.{length, get_or, length-append}
 use lib.Seq.{take_at}
-use Rattle.meaning.specs.Kinds.{Kind, bool, aint, afloat, i32, u32, f32, f16, kind_no, kind_of, kind_rank, from_same, from_aint, from_afloat}
+use Rattle.meaning.specs.Kinds.{Kind, bool, aint, afloat, i32, u32, f32, f16, kind_no, kind_rank, from_same, from_aint, from_afloat}
 use Rattle.meaning.specs.Kinds.{is_float, same_kind}
 use Rattle.meaning.specs.Scalars.{some?}
 use Rattle.meaning.specs.Trees.{Ty, Ts, Tv, Tm, Ta, Tu, Target, Of, Tr, leaf, set_leaf, same_ty}
@@ -27,7 +27,7 @@ use Rattle.laws.proofs.Length.{bytes_same}
 use Rattle.laws.proofs.Same.{both, same_ty_lem, same_refl}
 use Rattle.laws.proofs.Sound.{Bytes}
 use Rattle.kind.specs.Ends.{of_kind, numbered}
-use Rattle.kind.proofs.Numbers.{same}
+use Rattle.kind.proofs.Numbers.{table}
 use Rattle.std.specs.Option.{ok_or, is_some}
 use Rattle.std.specs.declared.option.Option as rust
 use Rattle.error.specs.Refusals.{paper}
@@ -46,10 +46,10 @@ use Rattle.record.proofs.Equal.{both_ways, bytes_path, bytes_refl}
 use Rattle.ty.specs.Stands.{Whole}
 use Rattle.std.specs.declared.option.Option.TheVariants.{None, Some}
 
--- "a type converts to itself (rank 0)"
-pub of_same : (j : Kind) (to : ℕ) → cond (eqb (kind_no j) to) (some 0) none ≡ of_kind none (from_same j) (kind_of to)
-unfolding from_same
-of_same j to = same j 0 (from_same j) (λ k. refl) to (kind_of to) refl
+-- opens what a rank between kinds computes by, as `table` does of one kind
+unfoldable pub ranks : ℕ → ℕ → Option ℕ
+unfolding table from_same from_aint from_afloat kind_rank kinds_from rank_of rank_between
+ranks = rank_between
 
 some_rank : (o : Option ℕ) → is_some (rank_of o) ≡ some? o
 unfolding rank_of some?
@@ -188,12 +188,6 @@ module _ {a b : List ℕ} {t u : Ty} (w : Whole a t) (v : Whole b u) where
         pub rank_no_shape : c ≡ false → None ≡ rank_of (rank t u)
         unfolding rank_of
         rank_no_shape h = rw (shaped, h)
-
-pub some_byte : {a : List ℕ} {t : Ty} {j : ℕ} → Whole a t → Some j ≡ leaf_of (leaf t) → 0 < length a
-some_byte {t = t} {j} w e =
-    let x = kind_is j (leaf t) e in
-    let y = leaf_last t x.is in
-    omega (arith, ap length (whole_bytes w ∙ y.bytes), length-append y.front (kind_no x.kind ∷ []))
 
 -- ---- answers
 

@@ -2,20 +2,19 @@
 // records, and the entry `conversion_rank`.
 #![tactic(auto)]
 
-ghost use Rattle.std.specs.Prelude.{◌≡◌, cond, ◌≤◌, eqb, length};
+ghost use Rattle.std.specs.Prelude.{◌≡◌, cond, eqb};
 ghost use Rattle.std.proofs.Math.Option.{none, some};
 ghost use Rattle.meaning.specs.Kinds.{kind_of, from_aint, from_afloat};
 ghost use Rattle.meaning.specs.Entries.{rank_answer};
 ghost use Rattle.kind.specs.Ends.{of_kind, numbered};
 ghost use Rattle.record.specs.Bytes.{same_bytes};
-ghost use Rattle.ty.specs.Stands.{OneType};
 ghost use Rattle.error.specs.Refusals.{paper};
 ghost use Rattle.rank.specs.Ranked.{rank_of, rank_between, RankIs, ConvertsIs, kinds_from, KindConverts, front, RanksTo};
 ghost use Rattle.rank.specs.Ranked.{RanksToRuntime};
 
 use error::Refusal;
 use kind::Scalar;
-use ty::{Limit, Target};
+use ty::{Limit, Target, Type};
 
 // ---- ranks between kinds
 
@@ -27,6 +26,7 @@ fn rank_of_same(from: u8, to: u8) -> Option<u8>
 }
 
 // "AbstractInt to I32 3, U32 4, AbstractFloat 5, F32 6, F16 7"
+#[tactic(auto, using(kind::proofs::Numbers::no_kind), unfolding(crate::proofs::Ranks::ranks))]
 fn rank_of_abstract_int(to: u8) -> Option<u8>
     ensures { result ≡ rank_of (of_kind none from_aint (kind_of to)) }
 {
@@ -43,6 +43,7 @@ fn rank_of_abstract_int(to: u8) -> Option<u8>
 }
 
 // "AbstractFloat to F32 1, F16 2"
+#[tactic(auto, using(kind::proofs::Numbers::no_kind), unfolding(crate::proofs::Ranks::ranks))]
 fn rank_of_abstract_float(to: u8) -> Option<u8>
     ensures { result ≡ rank_of (of_kind none from_afloat (kind_of to)) }
 {
@@ -59,6 +60,7 @@ fn rank_of_abstract_float(to: u8) -> Option<u8>
 }
 
 // The rank between two kinds (`conversion_rank` of conv.rs, of two scalar types). "Stage and kind choices: matches".
+#[tactic(auto, using(kind::proofs::Numbers::no_kind), unfolding(crate::proofs::Ranks::ranks))]
 pub fn kind_rank(from: u8, to: u8) -> Option<u8>
     ensures { result ≡ rank_of (rank_between from to) }
 {
@@ -77,28 +79,24 @@ pub fn kind_rank(from: u8, to: u8) -> Option<u8>
 // ---- ranks between types
 
 // Whether two records are the same up to the last byte, which is where a type without a struct has its kind.
-fn same_shape(a: &[u8], b: &[u8]) -> bool
-    requires some_a { 1 ≤ length a.now }
-    requires some_b { 1 ≤ length b.now }
-    ensures { result ≡ same_bytes (front a.now) (front b.now) }
+fn same_shape(a: Type, b: Type) -> bool
+    ensures { result ≡ same_bytes (front a.entry.bytes.now) (front b.entry.bytes.now) }
 {
-    let m = a.len() - 1;
-    let n = b.len() - 1;
-    a[..m] == b[..n]
+    let m = a.bytes.len() - 1;
+    let n = b.bytes.len() - 1;
+    a.bytes[..m] == b.bytes[..n]
 }
 
-// The rank of a conversion from the type a to the type b, each a whole record: "vectors, matrices and counted arrays of
+// The rank of a conversion from the type a to the type b: "vectors, matrices and counted arrays of
 // equal shape convert as their elements do", and "structs convert only to an equal type".
-pub fn type_rank(a: &[u8], b: &[u8]) -> Option<u8>
-    requires one_type { OneType a.now }
-    requires one_type_2 { OneType b.now }
-    ensures { RankIs a.now b.now result }
+pub fn type_rank(a: Type, b: Type) -> Option<u8>
+    ensures { RankIs a.entry.bytes.now b.entry.bytes.now result }
 {
-    if a == b {
+    if a.bytes == b.bytes {
         return Some(0);
     }
-    let j = ty::leaf_at(a, 0, Limit::DEPTH)?;
-    let k = ty::leaf_at(b, 0, Limit::DEPTH)?;
+    let j = ty::leaf_at(a.bytes, 0, Limit::DEPTH)?;
+    let k = ty::leaf_at(b.bytes, 0, Limit::DEPTH)?;
     if same_shape(a, b) {
         return kind_rank(j, k);
     }
@@ -107,6 +105,7 @@ pub fn type_rank(a: &[u8], b: &[u8]) -> Option<u8>
 
 // The kinds to which a scalar of a kind converts, a bit for each by its number: its own, from AbstractInt every kind
 // but Bool, from AbstractFloat also F32 and F16.
+#[tactic(auto, using(kind::proofs::Numbers::no_kind), unfolding(crate::proofs::Ranks::ranks))]
 fn kinds_from(from: u8) -> u8
     ensures { result ≡ numbered kinds_from from }
 {
@@ -138,37 +137,33 @@ pub fn kind_converts(from: u8, to: u8) -> bool
 }
 
 // Whether the type a converts to the type b, whatever they are.
-fn other_converts(a: &[u8], b: &[u8]) -> bool
-    requires one_type { OneType a.now }
-    requires one_type_2 { OneType b.now }
-    ensures { ConvertsIs a.now b.now result }
+fn other_converts(a: Type, b: Type) -> bool
+    ensures { ConvertsIs a.entry.bytes.now b.entry.bytes.now result }
 {
     type_rank(a, b).is_some()
 }
 
 // The same. Two scalars, as most are, by their kinds: a type of three bytes is a scalar.
-pub fn type_converts(a: &[u8], b: &[u8]) -> bool
-    requires one_type { OneType a.now }
-    requires one_type_2 { OneType b.now }
-    ensures { ConvertsIs a.now b.now result }
+pub fn type_converts(a: Type, b: Type) -> bool
+    ensures { ConvertsIs a.entry.bytes.now b.entry.bytes.now result }
 {
-    if a.len() == 3 {
-        if b.len() == 3 {
-            return kind_converts(a[2], b[2]);
+    if a.bytes.len() == 3 {
+        if b.bytes.len() == 3 {
+            return kind_converts(a.bytes[2], b.bytes[2]);
         }
     }
     other_converts(a, b)
 }
 
-// The rank to the type that a well-formed target is, of the one type that the arguments have to be.
-fn rank_to(target: &[u8], args: &[u8]) -> Result<u8, Refusal>
-    requires { OneType target.now }
-    ensures { RanksTo target.now args.now result }
+// The rank to the type that a target is, of the one type that the arguments have to be.
+fn rank_to(target: Type, args: &[u8]) -> Result<u8, Refusal>
+    ensures { RanksTo target.entry.bytes.now args.now result }
 {
     if !ty::is_type(args) {
         return Err(Refusal::BadArgument);
     }
-    type_rank(args, target).ok_or(Refusal::NoConversion)
+    let from = Type { bytes: args };
+    type_rank(from, target).ok_or(Refusal::NoConversion)
 }
 
 // A runtime-sized array is the type of no value, so nothing has a rank to it.
@@ -188,7 +183,10 @@ pub fn conversion_rank(target: &[u8], args: &[u8]) -> Result<u8, Refusal>
 {
     let found = ty::read_target(target).ok_or(Refusal::BadTarget)?;
     match found {
-        Target::Type => rank_to(target, args),
+        Target::Type => {
+            let to = Type { bytes: target };
+            rank_to(to, args)
+        }
         Target::Runtime => rank_to_runtime(args),
         _ => Err(Refusal::BadTarget),
     }

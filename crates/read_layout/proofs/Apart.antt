@@ -9,7 +9,7 @@ use lib.Seq.{drop-drop}
 use Rattle.meaning.specs.Records.{joined}
 use Rattle.meaning.specs.Layout.{apart}
 use Rattle.record.specs.Bytes.{Put, Takes}
-use Rattle.record.proofs.Left.{Left, left_all, one_less, left_room, left_on, left_end, left_same}
+use Rattle.record.proofs.Left.{Left, left_all, one_less, left_room, left_on, left_end}
 
 -- what is written for n places, the first at `at`
 abbrev pub each_from : (List ℕ → List ℕ) → ℕ → List ℕ → ℕ → ℕ → List ℕ
@@ -48,8 +48,7 @@ module _ {f : List ℕ → List ℕ} {w : ℕ} {mem : List ℕ} {at n : ℕ} {ou
     apart_within l = omega (arith, g.place, times_step (n - done) w some)
 
     pub apart_room : Takes out₀ to (each_from f w mem at n) → Takes out p (f (drop i mem))
-    apart_room l = left_room g.rest (f (drop i mem)) (each_from f w mem (i + w) (n - done - 1)) (each_step f w mem i (n - done) some)
-        (omega (arith, left_same g.rest))
+    apart_room l = left_room g.rest (f (drop i mem)) (each_from f w mem (i + w) (n - done - 1)) (each_step f w mem i (n - done) some) l
 
     pub apart_on : {j q : ℕ} {out' : List ℕ} → j ≡ i + w → Put out p (f (drop i mem)) q out'
         → Apart f w mem at n out₀ to out' j q (done + 1)

@@ -9,7 +9,7 @@ use Rattle.meaning.specs.Trees.{Ty, Tys}
 use Rattle.meaning.specs.Layout.{stride, align_of, size_of, past_last}
 use Rattle.memory.proofs.RoundUp.{up_more, align_is}
 use Rattle.record.specs.Bytes.{Put}
-use Rattle.record.proofs.Left.{Left, left_all, one_less, left_room, left_on, left_end, left_same}
+use Rattle.record.proofs.Left.{Left, left_all, one_less, left_room, left_on, left_end}
 use Rattle.read_layout.specs.Memory.{Typed, TypedAll, value_from, ValueRoom, ValueMoved, elements_from, ElementsRoom, members_from}
 use Rattle.read_layout.specs.Memory.{MembersRoom}
 use Rattle.read_layout.proofs.Apart.{Apart, apart_all, apart_within, apart_room, apart_on, apart_end}
@@ -59,9 +59,6 @@ module _ {d : ℕ} {ty : List ℕ} {o n pad : ℕ} {pads mem : List ℕ} {at : �
       next : (t : Ty) (q : ℕ) → Typed d ty o pads q t → pad ≡ stride t - size_of t → f + skip ≡ i + stride t
       next t q w e = omega (arith, (z t q w).1, stride_wide t)
 
-      pub element_within : f + skip ≤ length mem
-      element_within = omega (arith, next g.type g.ty_end g.typed g.padding, apart_within here.rest h g.within)
-
       pub element_on : ElementsLeft d ty o n pad pads mem at out₀ to out' q' (f + skip) r (done + 1)
       element_on t q w e =
           let y = z t q w in
@@ -102,9 +99,6 @@ module _ {d : ℕ} {ty : List ℕ} {o n : ℕ} {pads mem : List ℕ} {at : ℕ} 
   those : AllLeft d ty n pads g.types g.ty_end g.base g.off mem out₀ to out o' i p done
   those = v g.types g.ty_end g.base g.off g.typed g.place
 
-  pub members_same : length out ≡ length out₀
-  members_same = left_same those.rest
-
   module _ (h : done < n) where
     first : {m : Tys} {q base off : ℕ} (x : AllLeft d ty n pads m q base off mem out₀ to out o' i p done)
         → FirstLies d ty o' (n - done) pads q x.off x.types
@@ -124,8 +118,7 @@ module _ {d : ℕ} {ty : List ℕ} {o n : ℕ} {pads mem : List ℕ} {at : ℕ} 
       member_room =
           let x = those in
           let f = first x in
-          let b = left_room x.rest (value_from f.type mem (g.base + f.start)) _ (f.bytes mem g.base)
-          (omega (arith, g.room, members_same)) in
+          let b = left_room x.rest (value_from f.type mem (g.base + f.start)) _ (f.bytes mem g.base) g.room in
           record {
             type = f.type;
             ty_end = f.mid;

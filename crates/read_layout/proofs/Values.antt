@@ -35,9 +35,6 @@ module _ {d : ℕ} {ty : List ℕ} {o : ℕ} {pads mem : List ℕ} {at : ℕ} {o
       scalar : {t : Ty} {q : ℕ} → Typed d ty o pads q t → ScalarLies o pads t q k
       scalar w = scalar_lies w (sym e ∙ h _ _ w.stands)
 
-      pub scalar_end : o + 3 ≤ length pads
-      scalar_end = omega (arith, (scalar g.typed).end, g.typed.long)
-
       pub scalar_room : ScalarsRoom mem at 1 k out to
       scalar_room =
           let x = scalar g.typed in
@@ -53,9 +50,6 @@ module _ {d : ℕ} {ty : List ℕ} {o : ℕ} {pads mem : List ℕ} {at : ℕ} {o
     module _ {n k : ℕ} (e : a ≡ Vector n k) where
       vector : {t : Ty} {q : ℕ} → Typed d ty o pads q t → VectorLies o pads t q n k
       vector w = vector_lies w (sym e ∙ h _ _ w.stands)
-
-      pub vector_end : o + 6 ≤ length pads
-      vector_end = omega (arith, (vector g.typed).end, g.typed.long)
 
       pub vector_room : VectorRoom mem at n k out to
       vector_room =
@@ -215,9 +209,6 @@ module _ {d : ℕ} {ty : List ℕ} {o n pad : ℕ} {pads mem : List ℕ} {at : �
       scalars_size : {t : Ty} {q : ℕ} (x : ScalarLies o pads t q k) → n * stride t ≡ n * scalar_size x.kind
       scalars_size x = ap (λ (s : ℕ). n * s) (ap stride x.is ∙ scalar_stride x.kind)
 
-      pub scalars_last : o + 3 ≤ length pads
-      scalars_last = omega (arith, (one g.typed).end, g.typed.long)
-
       pub scalars_room : ScalarsRoom mem at n k out to
       scalars_room =
           let x = one g.typed in
@@ -243,9 +234,6 @@ module _ {d : ℕ} {ty : List ℕ} {o n pad : ℕ} {pads mem : List ℕ} {at : �
       vectors_pad : {t : Ty} {q : ℕ} (x : VectorLies o pads t q r k) → pad ≡ stride t - size_of t
           → pad ≡ col_stride r x.kind - r * scalar_size x.kind
       vectors_pad x i = omega (arith, i, vectors_stride x, x.size)
-
-      pub vectors_last : o + 6 ≤ length pads
-      vectors_last = omega (arith, (row g.typed).end, g.typed.long)
 
       pub vectors_room : ColumnsRoom mem at n r k pad out to
       vectors_room =

@@ -80,9 +80,6 @@ module _ {mem : List ℕ} {at n r k pad : ℕ} {out₀ : List ℕ} {to : ℕ} {o
       next : (j : Kind) → k ≡ kind_no j → pad ≡ col_stride r j - r * scalar_size j → from + skip ≡ i + col_stride r j
       next j e d = omega (arith, (z j e).0, column_wide r j)
 
-      pub column_within : from + skip ≤ length mem
-      column_within = omega (arith, next g.kind g.no g.padding, apart_within here h g.within)
-
       pub column_on : ColumnsLeft mem at n r k pad out₀ to out' (from + skip) q (done + 1)
       column_on j e d = apart_on (v j e d) h (next j e d) (rw (vector_here mem i r j) (z j e).1)
 

@@ -17,9 +17,14 @@ pub left_all : (out : List ℕ) (to : ℕ) (whole : List ℕ) → Left out to wh
 left_all out to whole = record { sums = refl; makes = λ r x y. y }
 
 module _ {out₀ : List ℕ} {to : ℕ} {whole out : List ℕ} {p : ℕ} {rest : List ℕ} (g : Left out₀ to whole out p rest) where
+  -- nothing that was stored changed the length
+  pub left_same : length out ≡ length out₀
+  left_same = sym (length-sets out p rest) ∙ (ap length (g.makes _ _ record { end = refl; left = refl }).left ∙ length-sets out₀ to whole)
+
   module _ (b rest' : List ℕ) (e : rest ≡ b ++ rest') where
-    pub left_room : Takes out to whole → Takes out p b
-    left_room h = omega (arith, g.sums, ap length e ∙ length-append b rest')
+    -- where the buffer took the whole at first, it takes what comes next
+    pub left_room : Takes out₀ to whole → Takes out p b
+    left_room h = omega (arith, g.sums, left_same, ap length e ∙ length-append b rest')
 
     pub left_on : {q : ℕ} {out' : List ℕ} → Put out p b q out' → Left out₀ to whole out' q rest'
     left_on y = record {
@@ -30,10 +35,6 @@ module _ {out₀ : List ℕ} {to : ℕ} {whole out : List ℕ} {p : ℕ} {rest :
 
   pub left_end : rest ≡ [] → Put out₀ to whole p out
   left_end e = g.makes p out (rw e (put_nil out p))
-
-  -- nothing that was stored changed the length
-  pub left_same : length out ≡ length out₀
-  left_same = sym (length-sets out p rest) ∙ (ap length (g.makes _ _ record { end = refl; left = refl }).left ∙ length-sets out₀ to whole)
 
 -- ---- copies: of n copies of b, i are written
 
@@ -53,7 +54,7 @@ copies_all b n out to = let e : n - 0 ≡ n = omega arith in record { rest = rw 
 
 module _ {b : List ℕ} {n : ℕ} {out₀ : List ℕ} {to : ℕ} {out : List ℕ} {p i : ℕ} (g : Copies b n out₀ to out p i) where
   module _ (h : i < n) where
-    pub copies_room : Takes out to (times n b) → Takes out p b
+    pub copies_room : Takes out₀ to (times n b) → Takes out p b
     copies_room l = left_room g.rest b (times (n - (i + 1)) b) (next n i b h) l
 
     pub copies_on : {q : ℕ} {out' : List ℕ} → Put out p b q out' → Copies b n out₀ to out' q (i + 1)

@@ -20,12 +20,6 @@ sets_append (x ∷ a) b l o =
 pub put_nil : (out : List ℕ) (to : ℕ) → Put out to [] to out
 put_nil out to = record { end = sym (add-zero to); left = refl }
 
-pub put_one : (out : List ℕ) (to b : ℕ) → Put out to (b ∷ []) (to + 1) (set out to b)
-put_one out to b = record { end = refl; left = refl }
-
-pub put_two : (out : List ℕ) (to a b : ℕ) → Put out to (a ∷ b ∷ []) (to + 2) (set (set out to a) (to + 1) b)
-put_two out to a b = record { end = refl; left = rw (add-one to) refl }
-
 pub put_three : (out : List ℕ) (to a b c : ℕ) → Put out to (a ∷ b ∷ c ∷ []) (to + 3) (set (set (set out to a) (to + 1) b) (to + 2) c)
 put_three out to a b c = let q : to + 2 ≡ suc (suc to) = omega arith in record { end = refl; left = rw (add-one to, q) refl }
 
@@ -51,6 +45,10 @@ module _ {out : List ℕ} {to : ℕ} {bs : List ℕ} {r : ℕ} {out' : List ℕ}
         room = omega
             (arith, put_length);
       }
+
+-- what an entry's writer left is what the lent buffer holds at the end
+pub put_left : {out mid out' : List ℕ} {to r : ℕ} {bs : List ℕ} → Put out to bs r mid → out' ≡ mid → Put out to bs r out'
+put_left y e = record { end = y.end; left = e ∙ y.left }
 
 -- a part overwritten as a whole
 pub put_part : {out bs ys : List ℕ} {to r : ℕ} → Takes out to bs → r ≡ to + length bs → ys ≡ bs → Put out to bs r (put_mid to (r - to) out ys)

@@ -1,7 +1,8 @@
-// The pieces that records are made of: little-endian numbers read and written, marks, copies, and a literal's record.
+// The pieces that records are made of: little-endian numbers read and written, marks, and a literal's record; and the
+// writer, which puts them into a lent buffer one behind another.
 #![tactic(auto)]
 
-ghost use Rattle.std.specs.Prelude.{◌≡◌, [], ◌∷◌, ◌≤◌, ◌+◌, ◌-◌, ◌*◌, ◌/◌, ◌%◌, length, get_or, take, drop};
+ghost use Rattle.std.specs.Prelude.{◌≡◌, [], ◌∷◌, ◌≤◌, ◌+◌, ◌-◌, ◌*◌, ◌/◌, ◌%◌, length, get_or};
 ghost use Rattle.meaning.specs.Trees.{lit_len};
 ghost use Rattle.meaning.specs.Records.{‘V’, le};
 ghost use Rattle.record.specs.Bytes.{Decides, Starts, Width, number_at, Takes, Put, times};
@@ -114,108 +115,169 @@ pub fn number(s: &[u8], at: usize, w: usize) -> u64
 
 // ---- bytes written
 
-// One byte, and the place behind it; two, three and four.
-pub fn put_byte(out: &mut [u8], to: usize, a: u8) -> usize
-    requires { to + 1 ≤ length out.old }
-    ensures { Put out.old to (a ∷ []) result out.new }
-{
-    out[to] = a;
-    to + 1
+// Where in a lent buffer the next byte is written. As far as the compiler knows, a stored byte may change the place: each
+// method reads the place once, stores, and writes it back once. One that calls others, or has a loop, does it by a writer
+// of its own, which stays in registers; so does a loop elsewhere that writes small items.
+#[derive(Drop)]
+pub struct Writer<'a> {
+    pub out: &'a mut [u8],
+    pub at: usize,
 }
 
-pub fn put_pair(out: &mut [u8], to: usize, a: u8, b: u8) -> usize
-    requires { to + 2 ≤ length out.old }
-    ensures { Put out.old to (a ∷ b ∷ []) result out.new }
-{
-    out[to] = a;
-    out[to + 1] = b;
-    to + 2
-}
-
-pub fn put_three(out: &mut [u8], to: usize, a: u8, b: u8, c: u8) -> usize
-    requires { to + 3 ≤ length out.old }
-    ensures { Put out.old to (a ∷ b ∷ c ∷ []) result out.new }
-{
-    let p = put_pair(out, to, a, b);
-    put_byte(out, p, c)
-}
-
-pub fn put_four(out: &mut [u8], to: usize, a: u8, b: u8, c: u8, d: u8) -> usize
-    requires { to + 4 ≤ length out.old }
-    ensures { Put out.old to (a ∷ b ∷ c ∷ d ∷ []) result out.new }
-{
-    let p = put_pair(out, to, a, b);
-    put_pair(out, p, c, d)
-}
-
-// A byte string, and the place behind it.
-pub fn put_bytes(out: &mut [u8], to: usize, bytes: &[u8]) -> usize
-    requires { Takes out.old to bytes.now }
-    ensures { Put out.old to bytes.now result out.new }
-{
-    let end = to + bytes.len();
-    out[to..end].copy_from_slice(bytes);
-    end
-}
-
-// The bytes from `from` up to `end`.
-pub fn copy(src: &[u8], from: usize, end: usize, out: &mut [u8], to: usize) -> usize
-    requires { (from ≤ end) × (end ≤ length src.now) × (to + (end - from) ≤ length out.old) }
-    ensures { Put out.old to (take (end - from) (drop from src.now)) result out.new }
-{
-    put_bytes(out, to, &src[from..end])
-}
-
-// ---- numbers written, the low byte first
-
-// The w lowest bytes of n. Each width is written by itself, so that the compiler makes one store of it.
-pub fn put_le(out: &mut [u8], to: usize, w: usize, n: u64) -> usize
-    requires { Width w × (to + w ≤ length out.old) }
-    ensures { Put out.old to (le w n) result out.new }
-{
-    let bytes = n.to_le_bytes();
-    if w > 4 {
-        return put_bytes(out, to, &bytes);
+impl Writer<'_> {
+    // One byte; two, three and four.
+    pub fn put_byte(&mut self, a: u8)
+        requires { self.old.at + 1 ≤ length self.old.out.now }
+        ensures put { Put self.old.out.now self.old.at (a ∷ []) self.new.at self.new.out.now }
+        ensures same_reference { self.new.out.ghost_name ≡ self.old.out.ghost_name }
+    {
+        let to = self.at;
+        self.out[to] = a;
+        self.at = to + 1;
     }
-    if w > 2 {
-        return put_bytes(out, to, &bytes[..4]);
+
+    pub fn put_pair(&mut self, a: u8, b: u8)
+        requires { self.old.at + 2 ≤ length self.old.out.now }
+        ensures put { Put self.old.out.now self.old.at (a ∷ b ∷ []) self.new.at self.new.out.now }
+        ensures same_reference { self.new.out.ghost_name ≡ self.old.out.ghost_name }
+    {
+        let (out, to) = (&mut *self.out, self.at);
+        out[to] = a;
+        out[to + 1] = b;
+        self.at = to + 2;
     }
-    if w > 1 {
-        return put_bytes(out, to, &bytes[..2]);
+
+    pub fn put_three(&mut self, a: u8, b: u8, c: u8)
+        requires { self.old.at + 3 ≤ length self.old.out.now }
+        ensures put { Put self.old.out.now self.old.at (a ∷ b ∷ c ∷ []) self.new.at self.new.out.now }
+        ensures same_reference { self.new.out.ghost_name ≡ self.old.out.ghost_name }
+    {
+        let (out, to) = (&mut *self.out, self.at);
+        out[to] = a;
+        out[to + 1] = b;
+        out[to + 2] = c;
+        self.at = to + 3;
     }
-    if w > 0 {
-        return put_byte(out, to, bytes[0]);
+
+    pub fn put_four(&mut self, a: u8, b: u8, c: u8, d: u8)
+        requires { self.old.at + 4 ≤ length self.old.out.now }
+        ensures put { Put self.old.out.now self.old.at (a ∷ b ∷ c ∷ d ∷ []) self.new.at self.new.out.now }
+        ensures same_reference { self.new.out.ghost_name ≡ self.old.out.ghost_name }
+    {
+        let (out, to) = (&mut *self.out, self.at);
+        out[to] = a;
+        out[to + 1] = b;
+        out[to + 2] = c;
+        out[to + 3] = d;
+        self.at = to + 4;
     }
-    to
-}
 
-// The mark of a value's record: `V` and a letter.
-pub fn put_mark(out: &mut [u8], to: usize, letter: u8) -> usize
-    requires { to + 2 ≤ length out.old }
-    ensures { Put out.old to (‘V’ ∷ letter ∷ []) result out.new }
-{
-    put_pair(out, to, b'V', letter)
-}
+    // A byte string.
+    pub fn put_bytes(&mut self, bytes: &[u8])
+        requires { Takes self.old.out.now self.old.at bytes.now }
+        ensures put { Put self.old.out.now self.old.at bytes.now self.new.at self.new.out.now }
+        ensures same_reference { self.new.out.ghost_name ≡ self.old.out.ghost_name }
+    {
+        let end = self.at + bytes.len();
+        self.out[self.at..end].copy_from_slice(bytes);
+        self.at = end;
+    }
 
-// ---- what stands before the parts of a value
+    // The w lowest bytes of n, the low byte first. Each width is written by itself, so that the compiler makes one store
+    // of it.
+    pub fn put_le(&mut self, w: usize, n: u64)
+        requires { Width w × (self.old.at + w ≤ length self.old.out.now) }
+        ensures put { Put self.old.out.now self.old.at (le w n) self.new.at self.new.out.now }
+        ensures same_reference { self.new.out.ghost_name ≡ self.old.out.ghost_name }
+    {
+        let bytes = n.to_le_bytes();
+        if w > 4 {
+            self.put_bytes(&bytes);
+            return;
+        }
+        if w > 2 {
+            self.put_bytes(&bytes[..4]);
+            return;
+        }
+        if w > 1 {
+            self.put_bytes(&bytes[..2]);
+            return;
+        }
+        if w > 0 {
+            self.put_byte(bytes[0]);
+        }
+    }
 
-// `Va` count.
-pub fn put_array(n: u16, out: &mut [u8], to: usize) -> usize
-    requires { Takes out.old to (array_front n) }
-    ensures { Put out.old to (array_front n) result out.new }
-{
-    let p = put_mark(out, to, b'a');
-    put_le(out, p, 2, n as u64)
-}
+    // The mark of a value's record: `V` and a letter.
+    pub fn put_mark(&mut self, letter: u8)
+        requires { self.old.at + 2 ≤ length self.old.out.now }
+        ensures put { Put self.old.out.now self.old.at (‘V’ ∷ letter ∷ []) self.new.at self.new.out.now }
+        ensures same_reference { self.new.out.ghost_name ≡ self.old.out.ghost_name }
+    {
+        self.put_pair(b'V', letter);
+    }
 
-// `Vu` identity, member count.
-pub fn put_struct(i: u16, n: u16, out: &mut [u8], to: usize) -> usize
-    requires { Takes out.old to (struct_front i n) }
-    ensures { Put out.old to (struct_front i n) result out.new }
-{
-    let p = put_mark(out, to, b'u');
-    let q = put_le(out, p, 2, i as u64);
-    put_le(out, q, 2, n as u64)
+    // What stands before the elements of an array: `Va` count.
+    pub fn put_array(&mut self, n: u16)
+        requires { Takes self.old.out.now self.old.at (array_front n) }
+        ensures put { Put self.old.out.now self.old.at (array_front n) self.new.at self.new.out.now }
+        ensures same_reference { self.new.out.ghost_name ≡ self.old.out.ghost_name }
+    {
+        let mut w = Writer {
+            out: &mut *self.out,
+            at: self.at,
+        };
+        w.put_mark(b'a');
+        w.put_le(2, n as u64);
+        self.at = w.at;
+    }
+
+    // What stands before the members of a struct: `Vu` identity, member count.
+    pub fn put_struct(&mut self, i: u16, n: u16)
+        requires { Takes self.old.out.now self.old.at (struct_front i n) }
+        ensures put { Put self.old.out.now self.old.at (struct_front i n) self.new.at self.new.out.now }
+        ensures same_reference { self.new.out.ghost_name ≡ self.old.out.ghost_name }
+    {
+        let mut w = Writer {
+            out: &mut *self.out,
+            at: self.at,
+        };
+        w.put_mark(b'u');
+        w.put_le(2, i as u64);
+        w.put_le(2, n as u64);
+        self.at = w.at;
+    }
+
+    // A literal's record: a mark, the kind and the payload, as wide as the kind says.
+    pub fn put_literal(&mut self, kind: u8, payload: u64)
+        requires { self.old.at + (3 + width_of kind) ≤ length self.old.out.now }
+        ensures put { Put self.old.out.now self.old.at (literal_of kind payload) self.new.at self.new.out.now }
+        ensures same_reference { self.new.out.ghost_name ≡ self.old.out.ghost_name }
+    {
+        let mut w = Writer {
+            out: &mut *self.out,
+            at: self.at,
+        };
+        w.put_three(b'V', b's', kind);
+        w.put_le(width(kind), payload);
+        self.at = w.at;
+    }
+
+    // n records of one kind and payload.
+    pub fn put_literals(&mut self, n: u8, k: u8, bits: u64)
+        requires { Takes self.old.out.now self.old.at (times n (literal_of k bits)) }
+        ensures put { Put self.old.out.now self.old.at (times n (literal_of k bits)) self.new.at self.new.out.now }
+        ensures same_reference { self.new.out.ghost_name ≡ self.old.out.ghost_name }
+    {
+        let mut w = Writer {
+            out: &mut *self.out,
+            at: self.at,
+        };
+        for _ in 0..n {
+            w.put_literal(k, bits);
+        }
+        self.at = w.at;
+    }
 }
 
 // ---- a literal's record: a mark, the kind and the payload, as wide as the kind says
@@ -242,25 +304,4 @@ pub fn payload_at(src: &[u8], i: usize) -> u64
 {
     let j = src[i + 2];
     number(src, i + 3, width(j))
-}
-
-// The record.
-pub fn put_literal(out: &mut [u8], to: usize, kind: u8, payload: u64) -> usize
-    requires { to + (3 + width_of kind) ≤ length out.old }
-    ensures { Put out.old to (literal_of kind payload) result out.new }
-{
-    let p = put_three(out, to, b'V', b's', kind);
-    put_le(out, p, width(kind), payload)
-}
-
-// n records of one kind and payload.
-pub fn put_literals(n: u8, k: u8, bits: u64, out: &mut [u8], to: usize) -> usize
-    requires { Takes out.old to (times n (literal_of k bits)) }
-    ensures { Put out.old to (times n (literal_of k bits)) result out.new }
-{
-    let mut p = to;
-    for _ in 0..n {
-        p = put_literal(out, p, k, bits);
-    }
-    p
 }

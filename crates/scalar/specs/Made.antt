@@ -1,12 +1,18 @@
 -- The scalar constructors over the items of a record, and over one argument (document 01, scalar constructors): "one
 -- literal of any kind", and "the scalar constructor on each component" of a vector or a matrix.
 use Rattle.std.specs.Prelude.{◌≡◌, List, [], ◌∷◌, not, ℕ, ◌+◌, ◌≤◌, T, length, get_or, IfOk}
-use Rattle.meaning.specs.Kinds.{Kind, kind_no, is_abstract}
+use mathlib.Core.Path.{refl, sym, ap, ◌∙◌}
+use mathlib.Core.HLevel.{is_prop→PathP}
+use native.Mathlib.Nat.{ℕ_set}
+use native.Mathlib.Omega.{arith}
+use Rattle.meaning.specs.Kinds.{Kind, kind_no, kind_of, is_abstract}
 use Rattle.meaning.specs.Scalars.{Stage}
 use Rattle.meaning.specs.Trees.{Ts, Val, Vs}
 use Rattle.meaning.specs.Records.{good_lit}
 use Rattle.meaning.specs.Answers.{Result, ok, ◌>>=◌, all, refusal_of}
 use Rattle.meaning.specs.Build.{ctor_lit, build_one}
+use Rattle.laws.proofs.AgreeLit.{kind_back}
+use Rattle.laws.proofs.Sound.{some_inj}
 use Rattle.error.specs.Refusals.{number}
 use Rattle.std.specs.declared.result.Result.TheVariants.{Ok, Err}
 use Rattle.literal.specs.LiteralAnswers.{Made, rules_of, refusal_for, WhenTo}
@@ -15,7 +21,8 @@ use Rattle.std.specs.declared.result.Result.{Result as Outcome}
 use Rattle.literal.specs.declared.Rules.{Rules}
 use Rattle.record.specs.Bytes.{Put, number_at}
 use Rattle.conv.specs.Items.{Item, Literal, Vector, Matrix, Array, item_bytes, bytes_of, ItemAt, ItemsAt, EndIs}
-use Rattle.args.specs.Row.{Row}
+use Rattle.args.specs.Row.{Row, Given, SomeGiven}
+use Rattle.args.specs.Values.{some_given_prop}
 use Rattle.error.specs.Told.{Builds}
 use Rattle.record.specs.Literals.{width_of}
 use Rattle.error.specs.Told.{Written}
@@ -95,10 +102,34 @@ pub record SomeKind (k : ℕ) : Type 0 where
   pub kind : Kind
   pub no : k ≡ kind_no kind
 
+-- in one way at most, so a struct may hold that fact
+pub some_kind_prop : (k : ℕ) → IsProp (SomeKind k)
+some_kind_prop k x y =
+    let same : x.kind ≡ y.kind = some_inj (sym (kind_back x.kind) ∙ (ap kind_of (sym x.no ∙ y.no) ∙ kind_back y.kind)) in
+    λ i. record { kind = same i; no = is_prop→PathP (λ j. k ≡ kind_no (same j)) (λ j. ℕ_set _ _) x.no y.no i }
+
 -- all of s is the record of one well-formed value
 pub record OneArg (s : List ℕ) : Type 0 where
   pub value : Val
   pub row : Row s 0 (value ∷ [])
+
+-- that value is the arguments of a call with one, and the one of them is that value
+unfoldable pub one_given : {s : List ℕ} → OneArg s → SomeGiven s 1
+one_given x = record { values = x.value ∷ []; given = record { row = x.row; count = refl } }
+
+unfoldable only : {s : List ℕ} {n : ℕ} → n ≡ 1 → (l : List Val) → Given s n l → OneArg s
+only h [] g = absurd (omega (arith, g.count))
+only h (v ∷ []) g = record { value = v; row = g.row }
+only h (v ∷ u ∷ l) g = absurd (omega (arith, g.count))
+
+unfoldable pub given_one : {s : List ℕ} {n : ℕ} → SomeGiven s n → n ≡ 1 → OneArg s
+unfolding only
+given_one x h = only h x.values x.given
+
+-- the bytes say which arguments they are, so a struct may hold that fact too
+pub one_arg_prop : (s : List ℕ) → IsProp (OneArg s)
+unfolding one_given only given_one
+one_arg_prop s x y = ap (λ g. given_one g refl) (some_given_prop s 1 (one_given x) (one_given y))
 
 -- a payload is handed over as a literal of the kind with the number k, where it is one of the kind's
 abbrev pub Handed : ℕ → ℕ → List ℕ → Written → List ℕ → Type 0

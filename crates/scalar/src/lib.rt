@@ -2,15 +2,16 @@
 // literals of a vector or a matrix.
 #![tactic(auto)]
 
-ghost use Rattle.std.specs.Prelude.{◌+◌, ◌≤◌, length, get_or};
+ghost use Rattle.std.specs.Prelude.{◌≡◌, ◌+◌, ◌≤◌, length, get_or};
 ghost use Rattle.record.specs.Literals.{width_of};
 ghost use Rattle.conv.specs.Items.{SomeItem, SomeItems};
-ghost use Rattle.scalar.specs.Made.{MadeAt, ItemMade, ItemRoom, ItemPut, AllMade, Makeable, Makes, SomeKind, OneArg, Handed};
-ghost use Rattle.scalar.specs.Made.{ScalarTold};
+ghost use Rattle.scalar.specs.Made.{MadeAt, ItemMade, ItemRoom, ItemPut, AllMade, Makeable, Makes, Handed};
+ghost use Rattle.scalar.specs.Made.{ScalarTold, SomeKind, some_kind_prop, OneArg, one_arg_prop};
 
 use error::Refusal;
 use kind::Scalar;
 use literal::{Rules, Unmade};
+use record::Writer;
 
 // ---- one item of a value's record: a literal, or a mark with its counts
 
@@ -19,7 +20,7 @@ fn made_at(rules: Rules, src: &[u8], i: usize, k: u8) -> Result<u64, Unmade>
     requires { i + (3 + width_of (get_or src.now (i + 2) 0)) ≤ length src.now }
     ensures { MadeAt rules k src.now i result }
 {
-    literal::construct_literal(rules, k, src[i + 2], record::payload_at(src, i))
+    conv::literal_at(src, i).construct(rules, k)
 }
 
 // Where the item ends, if it goes through the constructor of the kind k; a mark always does.
@@ -36,86 +37,100 @@ fn item_made(rules: Rules, src: &[u8], i: usize, k: u8) -> Result<usize, Unmade>
 }
 
 // The item, a literal as the constructor of the kind k makes it, a mark as it stands.
-fn put_made(rules: Rules, src: &[u8], i: usize, k: u8, out: &mut [u8], to: usize) -> usize
-    requires { ItemRoom rules k src.now i out.old to }
-    ensures { ItemPut rules k src.now i out.old to result out.new }
+fn put_made(rules: Rules, src: &[u8], i: usize, k: u8, w: &mut Writer)
+    requires { ItemRoom rules k src.now i w.old.out.now w.old.at }
+    ensures put { ItemPut rules k src.now i w.old.out.now w.old.at w.new.at w.new.out.now }
+    ensures same_reference { w.new.out.ghost_name ≡ w.old.out.ghost_name }
 {
     let mark = src[i + 1];
     if mark != b's' {
         let end = conv::item_end(src, i);
-        return record::put_bytes(out, to, &src[i..end]);
+        w.put_bytes(&src[i..end]);
+        return;
     }
     let Ok(p) = made_at(rules, src, i, k) else {
-        return to;
+        return;
     };
-    record::put_literal(out, to, k, p)
+    w.put_literal(k, p);
 }
 
 // ---- the items of a value's record
 
-// Whether the constructor of the kind k takes each literal from `from` up to `end`: the first that it does not take
-// says why. Decided before anything is written.
-pub fn all_made(rules: Rules, src: &[u8], from: usize, end: usize, k: u8) -> Result<(), Unmade>
-    requires { SomeItems src.now from end }
-    ensures { AllMade rules k src.now from end result }
+// Whether the constructor of the kind k takes each literal among the items: the first that it does not take says why.
+// Decided before anything is written.
+pub fn all_made(rules: Rules, items: &[u8], k: u8) -> Result<(), Unmade>
+    requires { SomeItems items.now 0 (length items.now) }
+    ensures { AllMade rules k items.now 0 (length items.now) result }
 {
-    let mut i = from;
-    while i < end {
-        i = item_made(rules, src, i, k)?;
+    let mut i = 0;
+    while i < items.len() {
+        i = item_made(rules, items, i, k)?;
     }
     Ok(())
 }
 
-// The items from `from` up to `end`, each literal as the constructor of the kind k makes it. A literal of another kind
-// may be of another length, so the places in the source and in the result go each its own way.
-pub fn write_made(
-    rules: Rules,
-    src: &[u8],
-    from: usize,
-    end: usize,
-    k: u8,
-    out: &mut [u8],
-    to: usize,
-) -> usize
-    requires { Makeable rules k src.now from end out.old to }
-    ensures { Makes rules k src.now from end out.old to result out.new }
+// The items, each literal as the constructor of the kind k makes it. A literal of another kind may be of another
+// length, so the places in the source and in the result go each its own way.
+pub fn write_made(rules: Rules, items: &[u8], k: u8, w: &mut Writer)
+    requires { Makeable rules k items.now 0 (length items.now) w.old.out.now w.old.at }
+    ensures put { Makes rules k items.now 0 (length items.now) w.old.out.now w.old.at w.new.at w.new.out.now }
+    ensures same_reference { w.new.out.ghost_name ≡ w.old.out.ghost_name }
 {
-    let mut i = from;
-    let mut p = to;
-    while i < end {
-        p = put_made(rules, src, i, k, out, p);
-        i = conv::item_end(src, i);
+    // a writer of its own stays in registers: as far as the compiler knows, a stored byte may change a lent one
+    let mut own = Writer {
+        out: &mut *w.out,
+        at: w.at,
+    };
+    let mut i = 0;
+    while i < items.len() {
+        put_made(rules, items, i, k, &mut own);
+        i = conv::item_end(items, i);
     }
-    p
+    w.at = own.at;
 }
 
 // ---- one argument
 
-// A payload handed over as a literal of the kind k, if there is room for it: "22 the accepted record is longer than the lent buffer".
-fn hand_literal(k: u8, payload: u64, out: &mut [u8]) -> Result<usize, Refusal>
-    requires { SomeKind k }
-    ensures { Handed k payload out.old result out.new }
+// A kind by its number, which is one of the seven.
+#[derive(Clone, Copy)]
+pub struct Kind {
+    pub number: u8,
+    pub ghost some: { SomeKind number } by { some_kind_prop number },
+}
+
+// The whole record of one well-formed value.
+#[derive(Clone, Copy)]
+pub struct Value<'a> {
+    pub bytes: &'a [u8],
+    pub ghost one: { OneArg bytes.now } by { one_arg_prop bytes.now },
+}
+
+// A literal of that kind handed over, if there is room for it: "22 the accepted record is longer than the lent buffer".
+fn hand_literal(kind: Kind, bits: u64, out: &mut [u8]) -> Result<usize, Refusal>
+    ensures { Handed kind.number bits out.old result out.new }
 {
+    let k = kind.number;
     if record::literal_len(k) > out.len() {
         return Err(Refusal::NoRoom);
     }
-    Ok(record::put_literal(out, 0, k, payload))
+    let mut w = Writer { out, at: 0 };
+    w.put_literal(k, bits);
+    Ok(w.at)
 }
 
-// The scalar type of the kind k given one argument: "4 not constructible (abstract scalar with arguments)", "6 scalar
+// The scalar type of that kind given one argument: "4 not constructible (abstract scalar with arguments)", "6 scalar
 // given a non-scalar", then 15 or 21, then 22.
-pub fn scalar(rules: Rules, k: u8, args: &[u8], out: &mut [u8]) -> Result<usize, Refusal>
-    requires some_kind { SomeKind k }
-    requires one_arg { OneArg args.now }
-    ensures { ScalarTold rules k args.now out.old result out.new }
+pub fn scalar(rules: Rules, kind: Kind, arg: Value, out: &mut [u8]) -> Result<usize, Refusal>
+    ensures { ScalarTold rules kind.number arg.entry.bytes.now out.old result out.new }
 {
-    let kind = Scalar { kind: k };
-    if kind.is_abstract() {
+    let k = kind.number;
+    let scalar = Scalar { kind: k };
+    if scalar.is_abstract() {
         return Err(Refusal::NotConstructible);
     }
-    if args[1] != b's' {
+    if arg.bytes[1] != b's' {
         return Err(Refusal::NotAScalar);
     }
-    let payload = made_at(rules, args, 0, k)?;
-    hand_literal(k, payload, out)
+    let bits = made_at(rules, arg.bytes, 0, k)?;
+    hand_literal(kind, bits, out)
 }

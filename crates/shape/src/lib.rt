@@ -1,7 +1,7 @@
 // What vectors, matrices and typing ask of the record of a type: where it ends, the kind in it, and whether as many of it make a matrix.
 #![tactic(auto)]
 
-ghost use Rattle.std.specs.Prelude.{◌≡◌, ◌*◌};
+ghost use Rattle.std.specs.Prelude.{◌≡◌};
 ghost use Rattle.ty.specs.Stands.{Standing};
 ghost use Rattle.shape.specs.Kinds.{KindsMeet, float_found, LitKindAt, InnerKind, GoesDown, FloatInner};
 ghost use Rattle.shape.specs.Matrices.{ShapeIs};
@@ -9,7 +9,7 @@ ghost use Rattle.shape.specs.TypeRows.{EndsAt};
 
 use error::Refusal;
 use kind::Scalar;
-use ty::{Head, Limit};
+use ty::{Head, Limit, Size};
 
 // What the arguments of a matrix are, once their type and their number are right.
 #[derive(Clone, Copy)]
@@ -111,22 +111,15 @@ pub fn float_inner(ty: &[u8]) -> Option<u8>
 
 // ---- matrices
 
-// The number of scalars in a matrix.
-fn times(c: u8, r: u8) -> usize
-    ensures { result ≡ c * r }
-{
-    usize::from(c) * usize::from(r)
-}
-
 // Whether count arguments of the type at the front of `ty` are the scalars or the columns of a matrix: "rows (14),
 // columns or c × r scalars (8), 13".
-pub fn matrix_shape(c: u8, r: u8, ty: &[u8], count: usize) -> Result<Shape, Refusal>
+pub fn matrix_shape(size: Size, ty: &[u8], count: usize) -> Result<Shape, Refusal>
     requires { Standing 15 ty.now 0 }
-    ensures { ShapeIs c r ty.now count result }
+    ensures { ShapeIs size.columns size.rows ty.now count result }
 {
     match ty::head_at(ty, 0, Limit::DEPTH) {
         Head::Scalar(_) => {
-            let n = times(c, r);
+            let n = size.scalars();
             if count != n {
                 return Err(Refusal::Count {
                     wanted: n,
@@ -136,10 +129,10 @@ pub fn matrix_shape(c: u8, r: u8, ty: &[u8], count: usize) -> Result<Shape, Refu
             Ok(Shape::Scalars)
         }
         Head::Vector(n, _) => {
-            if n != r {
+            if n != size.rows {
                 return Err(Refusal::ColumnLength);
             }
-            let w = usize::from(c);
+            let w = usize::from(size.columns);
             if count != w {
                 return Err(Refusal::Count {
                     wanted: w,

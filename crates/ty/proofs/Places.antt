@@ -1,29 +1,19 @@
--- What stands at a place is one type, and ends in one place.
+-- What stands at a place is one type (`same_type`), and ends in one place.
 use lib.Dec.{T}
 use mathlib.Core.Path.{◌≡◌, sym, ap, ◌∙◌}
-use mathlib.Core.Option.{Option, none, some}
 use mathlib.Core.List.{List, ◌++◌}
-use Prim.Native.Nat.{ℕ, suc, ◌+◌, ◌≤◌}
+use Prim.Native.Nat.{ℕ, ◌≤◌}
 use native.Mathlib.Omega.{arith}
 use lib.ListN.{length, drop}
 use Rattle.meaning.specs.Trees.{Ty, depth}
 use Rattle.meaning.specs.Records.{ty_bytes, shaped_ty}
-use Rattle.meaning.specs.Read.{p_ty}
-use Rattle.laws.proofs.Back.{ty_back}
 use Rattle.record.specs.Bytes.{Put}
 use Rattle.record.proofs.Puts.{put_length, put_starts}
 use Rattle.ty.specs.Stands.{Stands}
+pub use Rattle.ty.specs.OneTypes.{same_type}
 
-module _ {d d' : ℕ} {s : List ℕ} {at : ℕ} {t t' : Ty} {e e' : ℕ} where
-  pub same_type : Stands d s at t e → Stands d' s at t' e' → t ≡ t'
-  same_type w w' =
-      let n : ℕ = suc (depth t + depth t') in
-      let p : p_ty n (drop at s) ≡ some (t, drop e s) = rw w.here (ty_back t n w.shaped (omega arith) (drop e s)) in
-      let q : p_ty n (drop at s) ≡ some (t', drop e' s) = rw w'.here (ty_back t' n w'.shaped (omega arith) (drop e' s)) in
-      ap (λ (o : Option (Ty × List ℕ)). let x : Ty = elim o [ none ↦ t | some r ↦ r.0 ] in x) (sym p ∙ q)
-
-  pub same_end : Stands d s at t e → Stands d' s at t' e' → e ≡ e'
-  same_end w w' = omega (arith, w.size, w'.size, ap (λ (x : Ty). length (ty_bytes x)) (same_type w w'))
+pub same_end : {d d' : ℕ} {s : List ℕ} {at : ℕ} {t t' : Ty} {e e' : ℕ} → Stands d s at t e → Stands d' s at t' e' → e ≡ e'
+same_end w w' = omega (arith, w.size, w'.size, ap (λ (x : Ty). length (ty_bytes x)) (same_type w w'))
 
 -- a type's record that was stored stands there
 pub put_stands : {d : ℕ} {out out' : List ℕ} {o q : ℕ} (t : Ty) → T (shaped_ty t) → depth t ≤ d → Put out o (ty_bytes t) q out'

@@ -3,13 +3,14 @@ use mathlib.Core.Path.{◌≡◌, refl, sym, ap, ◌∙◌, subst}
 use mathlib.Core.Option.{Option as Maybe, none, some}
 use Rattle.std.specs.declared.option.Option.{Option}
 use Rattle.std.specs.declared.option.Option.TheVariants.{None, Some}
-use mathlib.Core.List.{List, [], append-nil}
+use mathlib.Core.List.{List, append-nil}
 use mathlib.Core.Bool.{◌&&◌}
 use Prim.Native.Nat.{ℕ, ◌+◌, ◌≤◌}
 use native.Mathlib.Omega.{arith}
 use lib.Dec.{T, leb, leb→le, le→leb}
 use lib.ListN.{length, get_or, drop, length-drop}
 use lib.Seq.{drop-length}
+use Rattle.std.proofs.lemmas.List.{drop_all}
 use Rattle.meaning.specs.Trees.{Ty, Of, Tr, Qa, Qv, Qm, depth}
 use Rattle.meaning.specs.Trees as trees
 use Rattle.meaning.specs.Records.{ty_bytes, target_bytes, shaped_ty, side, good_within, good_ty, good_target}
@@ -67,21 +68,18 @@ module _ (d n : ℕ) (s : List ℕ) (at : ℕ) (t : Ty) where
 
 -- ---- from the bytes to a target
 
-rest_of : (s : List ℕ) (n : ℕ) → length s ≡ n → drop n s ≡ []
-rest_of s n h = rw h at (drop-length s)
-
 module _ {s : List ℕ} where
   array_bytes : ArrayShape s → s ≡ target_bytes Qa
   unfolding target_bytes
-  array_bytes w = cc (view2 s 0 (omega (arith, w.size)), rest_of s 2 w.size, w.first, w.second)
+  array_bytes w = cc (view2 s 0 (omega (arith, w.size)), drop_all 2 s (omega (arith, w.size)), w.first, w.second)
 
   vector_bytes : VectorShape s → s ≡ target_bytes (Qv (get_or s 2 0))
   unfolding target_bytes
-  vector_bytes w = cc (view3 s 0 (omega (arith, w.size)), rest_of s 3 w.size, w.first, w.second)
+  vector_bytes w = cc (view3 s 0 (omega (arith, w.size)), drop_all 3 s (omega (arith, w.size)), w.first, w.second)
 
   matrix_bytes : MatrixShape s → s ≡ target_bytes (Qm (get_or s 2 0) (get_or s 3 0))
   unfolding target_bytes
-  matrix_bytes w = cc (view4 s 0 (omega (arith, w.size)), rest_of s 4 w.size, w.first, w.second)
+  matrix_bytes w = cc (view4 s 0 (omega (arith, w.size)), drop_all 4 s (omega (arith, w.size)), w.first, w.second)
 
   runtime_bytes : (w : RuntimeTarget s) → s ≡ target_bytes (Tr w.ends.type)
   unfolding target_bytes

@@ -7,7 +7,8 @@ ghost use Rattle.meaning.specs.Records.{side};
 ghost use Rattle.meaning.specs.Read.{read_target};
 ghost use Rattle.record.specs.Bytes.{Decides};
 ghost use Rattle.record.specs.Literals.{Sized, most_lit};
-ghost use Rattle.ty.specs.Stands.{Ends, EndAll, Standing, StandingAll};
+ghost use Rattle.ty.specs.Stands.{Ends, EndAll, Standing, StandingAll, OneType};
+ghost use Rattle.ty.specs.OneTypes.{one_type_prop};
 ghost use Rattle.ty.specs.TypeFronts.{Told, ScalarAt, VectorAt, MatrixAt, ArrayAt, StructAt, Fronted};
 ghost use Rattle.ty.specs.Heads.{HeadAt, len_of, Measured, MeasuredAll, LeafAt};
 ghost use Rattle.ty.specs.Targets.{ArrayShape, VectorShape, MatrixShape, RuntimeTarget, TypeTarget, target_of};
@@ -69,6 +70,29 @@ pub enum Head {
     Matrix(u8, u8, u8),
     Array(u16),
     Struct(u16, u16),
+}
+
+// The columns and the rows of a matrix.
+#[derive(Clone, Copy, PartialEq, Eq)]
+pub struct Size {
+    pub columns: u8,
+    pub rows: u8,
+}
+
+impl Size {
+    // The number of scalars in such a matrix.
+    pub fn scalars(self) -> usize
+        ensures { result ≡ self.columns * self.rows }
+    {
+        usize::from(self.columns) * usize::from(self.rows)
+    }
+}
+
+// The whole record of one well-formed type.
+#[derive(Clone, Copy)]
+pub struct Type<'a> {
+    pub bytes: &'a [u8],
+    pub ghost one: { OneType bytes.now } by { one_type_prop bytes.now },
 }
 
 // Whether the number can be a vector's length, a matrix's columns or its rows.
@@ -303,10 +327,10 @@ pub fn vector_len(n: u8, kind: u8) -> usize
 }
 
 // The length of a matrix's record: its columns are vectors.
-pub fn matrix_len(c: u8, r: u8, kind: u8) -> usize
-    ensures { Sized kind (λ k. val_len (Tm c r k)) (4 + 255 * (3 + 255 * most_lit)) result }
+pub fn matrix_len(size: Size, kind: u8) -> usize
+    ensures { Sized kind (λ k. val_len (Tm size.columns size.rows k)) (4 + 255 * (3 + 255 * most_lit)) result }
 {
-    4 + usize::from(c) * vector_len(r, kind)
+    4 + usize::from(size.columns) * vector_len(size.rows, kind)
 }
 
 // The length of an array of n elements of that length, behind 4 bytes of mark and count.
@@ -346,7 +370,13 @@ fn walk_len(ty: &[u8], at: usize, depth: u8) -> Option<(usize, usize)>
     match head_at(t, at, depth) {
         Head::Scalar(k) => Some((at + 3, record::literal_len(k))),
         Head::Vector(n, k) => Some((at + 6, vector_len(n, k))),
-        Head::Matrix(c, r, k) => Some((at + 7, matrix_len(c, r, k))),
+        Head::Matrix(c, r, k) => {
+            let size = Size {
+                columns: c,
+                rows: r,
+            };
+            Some((at + 7, matrix_len(size, k)))
+        }
         Head::Array(n) => array_len(n, walk_len(t, at + 4, depth - 1)),
         Head::Struct(_, n) => members_len(t, at + 6, n, depth - 1),
     }

@@ -1,20 +1,19 @@
 -- The record of an accepted type, handed over.
-use mathlib.Core.Path.{◌≡◌, refl, ap, ◌∙◌, subst}
+use mathlib.Core.Path.{◌≡◌, refl, ◌∙◌, subst}
 use mathlib.Core.List.{List, [], ◌∷◌}
-use Prim.Native.Nat.{ℕ, ◌+◌, ◌-◌, ◌≤◌, ◌<◌}
+use Prim.Native.Nat.{ℕ, ◌+◌, ◌≤◌, ◌<◌}
 use native.Mathlib.Omega.{arith}
-use lib.ListN.{length, take, drop, set, length-set}
-use lib.Seq.{take_at}
+use lib.ListN.{length}
 use Rattle.meaning.specs.Kinds.{Kind, kind_no}
 use Rattle.meaning.specs.Trees.{Ty, Tv, Tm, Ta}
 use Rattle.meaning.specs.Records.{ty_bytes, le}
 use Rattle.meaning.specs.Answers.{no}
 use Rattle.meaning.specs.Entries.{hand_ty}
 use Rattle.laws.proofs.Length.{le_len}
-use Rattle.ty.specs.Stands.{Stands, Whole}
+use Rattle.ty.specs.Stands.{Whole}
 use Rattle.ty.proofs.Targets.{whole_bytes}
 use Rattle.record.specs.Bytes.{Put}
-use Rattle.record.proofs.Puts.{put_two, put_put}
+use Rattle.record.proofs.Puts.{put_put}
 use Rattle.error.specs.Told.{Told}
 use Rattle.error.specs.Hand.{handed}
 use Rattle.error.proofs.BufferAtExit.{written}
@@ -30,9 +29,6 @@ hand_whole room {t = t} w = hand_type room t (whole_bytes w)
 
 -- ---- new records
 
-pub marked_len : (out : List ℕ) (a b : ℕ) → length (set (set out 0 a) 1 b) ≡ length out
-marked_len out a b = simp length-set
-
 pub vector_bytes : (n : ℕ) (j : Kind) {k : ℕ} → k ≡ kind_no j → 84 ∷ 118 ∷ n ∷ 84 ∷ 115 ∷ k ∷ [] ≡ ty_bytes (Tv n j)
 unfolding ty_bytes
 vector_bytes n j e = rw e
@@ -45,22 +41,20 @@ matrix_bytes c r j e = rw e
 pub count_end : (n : ℕ) {out out' : List ℕ} {to r : ℕ} → Put out to (le 2 n) r out' → r ≡ to + 2
 count_end n x = omega (arith, x.end, le_len 2 n)
 
-module _ {ty : List ℕ} {t : Ty} {q : ℕ} (w : Stands 15 ty 0 t q) (n : ℕ) (out : List ℕ) where
-  array_len : length (ty_bytes (Ta n t)) ≡ 4 + q
+module _ {ty : List ℕ} {t : Ty} (w : Whole ty t) (n : ℕ) (out : List ℕ) where
+  array_len : length (ty_bytes (Ta n t)) ≡ 4 + length ty
   unfolding ty_bytes le
   array_len = omega (arith, w.size)
 
-  pub array_long : length out < 4 + q → hand_ty (length out) (Ta n t) ≡ no 22
+  pub array_long : length out < 4 + length ty → hand_ty (length out) (Ta n t) ≡ no 22
   array_long h = hand_type (length out) (Ta n t) refl ∙ handed_no (length out) (ty_bytes (Ta n t)) (omega (arith, array_len))
 
-  pub array_put : 4 + q ≤ length out → {p r : ℕ} {mid out' : List ℕ} → Put (set (set out 0 84) 1 97) 2 (le 2 n) p mid
-      → Put mid p (take (q - 0) (drop 0 ty)) r out'
-      → Told (hand_ty (length out) (Ta n t)) out (Ok r) out'
+  -- the mark, the count, the element type
+  pub array_put : 4 + length ty ≤ length out → {p q r : ℕ} {a b out' : List ℕ} → Put out 0 (84 ∷ 97 ∷ []) p a → Put a p (le 2 n) q b
+      → Put b q ty r out' → Told (hand_ty (length out) (Ta n t)) out (Ok r) out'
   unfolding ty_bytes le
-  array_put h {p} {r} {mid} {out'} x y =
-      let a : take (q - 0) (drop 0 ty) ≡ ty_bytes t = ap (take (q - 0)) w.here
-      ∙ take_at (ty_bytes t) (drop q ty) (q - 0) (omega (arith, w.size)) in
-      let b : Put mid p (ty_bytes t) r out' = subst (λ (s : List ℕ). Put mid p s r out') a y in
+  array_put h {q = q} {r} {b = b} {out'} x y z =
+      let last : Put b q (ty_bytes t) r out' = subst (λ (s : List ℕ). Put b q s r out') (whole_bytes w) z in
       written (ty_bytes (Ta n t)) (hand_type (length out) (Ta n t) refl
       ∙ handed_yes (length out) (ty_bytes (Ta n t)) (omega (arith, array_len))) (omega (arith, array_len))
-      (put_put (put_put (put_two out 0 84 97) x) b)
+      (put_put (put_put x y) last)

@@ -4,7 +4,7 @@ use Rattle.meaning.specs.Kinds.{Kind, kind_no}
 use Rattle.meaning.specs.Trees.{Ty, Tv, Tm, Ta}
 use Rattle.meaning.specs.Answers.{Result, ◌>>=◌}
 use Rattle.meaning.specs.Entries.{hand_ty}
-use Rattle.ty.specs.Stands.{Stands}
+use Rattle.ty.specs.Stands.{Whole}
 use Rattle.error.specs.Told.{Told}
 use Rattle.error.specs.Told.{Written}
 
@@ -18,5 +18,5 @@ HandsVector n k out r out' = (j : Kind) → k ≡ kind_no j → Told (hand_ty (l
 abbrev pub HandsMatrix : ℕ → ℕ → ℕ → List ℕ → Written → List ℕ → Type 0
 HandsMatrix c r k out x out' = (j : Kind) → k ≡ kind_no j → Told (hand_ty (length out) (Tm c r j)) out x out'
 
-abbrev pub HandsArray : ℕ → List ℕ → ℕ → List ℕ → Written → List ℕ → Type 0
-HandsArray n ty q out r out' = (t : Ty) → Stands 15 ty 0 t q → Told (hand_ty (length out) (Ta n t)) out r out'
+abbrev pub HandsArray : ℕ → List ℕ → List ℕ → Written → List ℕ → Type 0
+HandsArray n ty out r out' = (t : Ty) → Whole ty t → Told (hand_ty (length out) (Ta n t)) out r out'

@@ -5,7 +5,7 @@ use mathlib.Core.List.{List, [], ◌∷◌, ◌++◌, map}
 use mathlib.Core.Bool.{Bool, true, false, ◌&&◌}
 use Prim.Native.Nat.{ℕ}
 use lib.Dec.{T}
-use lib.ListN.{length, get_or, take}
+use lib.ListN.{length, get_or}
 use borrow.Author.Tests.{eq-eqb, ne_eqb}
 use Rattle.meaning.specs.Kinds.{Kind, kind_no}
 use Rattle.meaning.specs.Scalars.{some?}
@@ -23,10 +23,9 @@ use Rattle.laws.proofs.Same.{both}
 use Rattle.ty.specs.Stands.{Stands}
 use Rattle.record.proofs.Places.{at_of}
 use Rattle.ty.proofs.Heads.{ScalarIs, scalar_by}
-use Rattle.ty.proofs.FrontOfBuffer.{front_whole}
 use Rattle.args.specs.Row.{Row}
 use Rattle.args.proofs.ArgumentRows.{each_ok}
-use Rattle.common_type.specs.CommonTypes.{CommonAt}
+use Rattle.common_type.specs.CommonTypes.{CommonIs}
 use Rattle.convert_all.specs.Lists.{all_to, AskedFit}
 use Rattle.convert_all.proofs.ConvertedLists.{common_to}
 use Rattle.shape.proofs.Downs.{some_of, none_of}
@@ -46,9 +45,9 @@ qv_never n m l q e h = rw (sym e, eq-eqb m n q, h)
 
 -- ---- the common type that was found
 
-pub in_common : {n m q : ℕ} {args ty : List ℕ} {l : List Val} → Row args 0 l → (f : CommonAt (common (map type_of (flattened l))) q ty)
-    → m ≡ length (flattened l) → m ≡ n → InCommon n args (take q ty) l f.type
-in_common x f e h = record { row = x; whole = front_whole f.stands; is = f.is; count = sym e ∙ h }
+pub in_common : {n m : ℕ} {args ty : List ℕ} {l : List Val} → Row args 0 l → (f : CommonIs (common (map type_of (flattened l))) ty)
+    → m ≡ length (flattened l) → m ≡ n → InCommon n args ty l f.type
+in_common x f e h = record { row = x; whole = f.whole; is = f.is; count = sym e ∙ h }
 
 -- ---- to a scalar's type only literals convert
 

@@ -69,11 +69,11 @@ qv_other n (Vu i l) h x = rw (one_short n h)
 -- ---- to a vector type
 
 -- a literal, as it is converted
-module _ {i : ℕ} {t : List ℕ} {v : Val} (x : IsLiteral t i v) {k : ℕ} (j : Kind) (e : k ≡ kind_no j) {b : ℕ} (q : b ≡ x.pay)
-    {c : Option ℕ} (h : c ≡ converted_of (conv_between k (get_or t (i + 2) 0) b)) where
+module _ {i : ℕ} {t : List ℕ} {v : Val} (x : IsLiteral t i v) {k : ℕ} (j : Kind) (e : k ≡ kind_no j) {a : ℕ} (m : a ≡ get_or t (i + 2) 0)
+    {b : ℕ} (q : b ≡ x.pay) {c : Option ℕ} (h : c ≡ converted_of (conv_between k a b)) where
   converted : c ≡ converted_of (conv j x.kind x.pay)
   unfolding conv_between of_kind
-  converted = h ∙ (rw (e, x.no, q, kind_back x.kind, kind_back j))
+  converted = h ∙ (rw (e, m, x.no, q, kind_back x.kind, kind_back j))
 
   vec_literal : (s : Stage) (n : ℕ) → vec_one s n j v ≡ (or_no 9 (conv j x.kind x.pay) >>= λ p. ok (Vv j (replicate n p)))
   unfolding vec_one

@@ -17,8 +17,9 @@ use Rattle.laws.proofs.Left.{Left as Rest}
 use Rattle.laws.proofs.Sound.{some_inj}
 use Rattle.record.specs.Bytes.{Takes, Put}
 use Rattle.conv.specs.Items.{Convertible, Converts}
-use Rattle.record.proofs.Left.{Left, left_room, left_on, left_end, left_same}
+use Rattle.record.proofs.Left.{Left, left_room, left_on, left_end}
 use Rattle.conv.proofs.Values.{Scan, joined_append, scan_room, scan_put}
+use Rattle.conv.proofs.Slices.{part, scan_part}
 use Rattle.laws.proofs.Each.{join_some, some_append, written}
 use Rattle.args.specs.Row.{Row, Skips}
 use Rattle.args.proofs.ArgumentRows.{args_first, args_on, args_end}
@@ -115,15 +116,24 @@ module _ {j : Kind} {s out₀ : List ℕ} {to : ℕ} {ps : List ℕ} {i p : ℕ}
         → Scan j s from e (written (pay_to j) (lit_bytes j) (parts v))
     scan {v} {l} x y = rw (f v l x, (z v l x).end) (arg_scan j x (and_l (flat v) (every flat l) y))
 
+    -- its literals are a slice
+    pub put_start : from ≤ e
+    unfolding every
+    put_start = args_first g h λ v l x q. omega (arith, (scan x q.flats).stands.size)
+
+    pub put_within : e ≤ length s
+    unfolding every
+    put_within = args_first g h λ v l x q. (scan x q.flats).stands.within
+
     module _ {k : ℕ} (n : k ≡ kind_no j) where
-      pub put_room : Takes out₀ to (joined (lit_bytes j) ps) → Convertible k s from e out p
+      pub put_room : Takes out₀ to (joined (lit_bytes j) ps) → Convertible k (part s from e) 0 (length (part s from e)) out p
       unfolding every
       put_room a = args_first g h λ v l x q.
           let y = split_of_lem j v l q.goes in
-          scan_room (scan x q.flats) n y.head (left_room q.rest (joined (lit_bytes j) y.first) (joined (lit_bytes j) y.others)
-          y.is (omega (arith, a, left_same q.rest)))
+          scan_room (scan_part (scan x q.flats)) n y.head (left_room q.rest (joined (lit_bytes j) y.first) (joined (lit_bytes j) y.others)
+          y.is a)
 
-      pub put_on : {q : ℕ} {out' : List ℕ} → Converts k s from e out p q out' → PutLeft j s out₀ to ps e q out'
+      pub put_on : {q : ℕ} {out' : List ℕ} → Converts k (part s from e) 0 (length (part s from e)) out p q out' → PutLeft j s out₀ to ps e q out'
       unfolding every
       put_on c = args_on g h z λ v l x q.
           let y = split_of_lem j v l q.goes in
@@ -132,7 +142,7 @@ module _ {j : Kind} {s out₀ : List ℕ} {to : ℕ} {ps : List ℕ} {i p : ℕ}
             flats = and_r (flat v) (every flat l) q.flats;
             goes = y.tail;
             rest = left_on q.rest (joined (lit_bytes j) y.first) (joined (lit_bytes j) y.others) y.is
-                (scan_put (scan x q.flats) n y.head c);
+                (scan_put (scan_part (scan x q.flats)) n y.head c);
           }
 
   pub put_end : length s ≤ i → Put out₀ to (joined (lit_bytes j) ps) p out

@@ -12,7 +12,7 @@ use Rattle.meaning.specs.Answers.{ok}
 use Rattle.laws.proofs.Length.{val_len_lem}
 use Rattle.record.specs.Literals.{Sized, literal_of}
 use Rattle.record.specs.Bytes.{Put, times, Takes}
-use Rattle.record.proofs.Puts.{put_put}
+use Rattle.record.proofs.Puts.{put_put, put_length}
 use Rattle.error.specs.Told.{Builds}
 use Rattle.error.proofs.BufferAtExit.{builds_long, builds_record}
 use Rattle.record.proofs.Literals.{width_of_lem, literal_bytes, literals_long, joined_times}
@@ -29,9 +29,9 @@ module _ {k most r : ℕ} (n : ℕ) (z : Sized k (λ i. val_len (Tv n i)) most r
   pub front_room : (out : List ℕ) → r ≤ length out → 3 ≤ length out
   front_room out h = omega (arith, measured)
 
-  pub all_room : {out mid : List ℕ} {p : ℕ} (bits : ℕ) → r ≤ length out → Put out 0 (‘V’ ∷ ‘v’ ∷ n ∷ []) p mid → length mid ≡ length out
+  pub all_room : {out mid : List ℕ} {p : ℕ} (bits : ℕ) → r ≤ length out → Put out 0 (‘V’ ∷ ‘v’ ∷ n ∷ []) p mid
       → Takes mid p (times n (literal_of k bits))
-  all_room bits h y l = rw (literals_long n k bits, e, width_of_lem j) (omega (arith, measured, y.end))
+  all_room bits h y = rw (literals_long n k bits, e, width_of_lem j) (omega (arith, measured, y.end, put_length y))
 
   module _ (ps : List ℕ) (q : length ps ≡ n) (g : T (every (good_lit j) ps)) (out : List ℕ) where
     shaped : T (shaped_val (Vv j ps))
@@ -57,8 +57,8 @@ module _ {k most r : ℕ} (n : ℕ) (z : Sized k (λ i. val_len (Tv n i)) most r
     whole_record h u = builds_record out (Vv j ps) refl shaped (omega (arith, long)) u
 
     module _ (h : r ≤ length out) {mid : List ℕ} {p : ℕ} (y : Put out 0 (‘V’ ∷ ‘v’ ∷ n ∷ []) p mid) where
-      pub vector_room : length mid ≡ length out → p + length (joined (lit_bytes j) ps) ≤ length mid
-      vector_room l = omega (arith, long, bytes, val_len_lem (Vv j ps) shaped, y.end)
+      pub vector_room : p + length (joined (lit_bytes j) ps) ≤ length mid
+      vector_room = omega (arith, long, bytes, val_len_lem (Vv j ps) shaped, y.end, put_length y)
 
       pub vector_record : {t : ℕ} {out' : List ℕ} → Put mid p (joined (lit_bytes j) ps) t out' → Builds (ok (Vv j ps)) out (Ok t) out'
       unfolding val_bytes vec_bytes

@@ -1,52 +1,58 @@
-// Vectors: the source's `vec` (ctor.rs) on records in lent slices. All is decided and measured before a byte is written.
+// Vectors: the source's `vec` (ctor.rs) on records in lent slices. All is decided and measured before a byte is
+// written.
 #![tactic(auto)]
 
 ghost use Rattle.std.specs.Prelude.{◌≡◌, ◌+◌, ◌≤◌, T, get_or};
 ghost use Rattle.meaning.specs.Records.{‘s’, ‘v’, side};
 ghost use Rattle.args.specs.Row.{SomeRow, SomeArg};
-ghost use Rattle.scalar.specs.Made.{SomeKind, OneArg};
 ghost use Rattle.vector.specs.VectorRules.{Repeats, QvOne, Splats, VecOne, PartCount, IsFlat, FirstLit, FlatCount, AllFlat};
 ghost use Rattle.vector.specs.VectorRules.{SomeRoom, PartsPut, SomeVector, VectorPut, VecParts, SomeCommon, ToCommon, QvParts};
 
 use error::Refusal;
 use kind::Scalar;
 use literal::Rules;
-use ty::Limit;
+use record::Writer;
+use scalar::{Kind, Value};
+use ty::{Limit, Type};
 
 // ---- writing
 
-// The vector of n literals of one kind and one payload, if there is room for it: "22 the accepted record is longer than the lent buffer".
-fn repeated(n: u8, k: u8, bits: u64, out: &mut [u8]) -> Result<usize, Refusal>
-    requires { SomeKind k }
-    ensures { Repeats n k bits out.old result out.new }
+// The vector of n literals of one kind and one payload, if there is room for it: "22 the accepted record is longer than
+// the lent buffer".
+fn repeated(n: u8, kind: Kind, bits: u64, out: &mut [u8]) -> Result<usize, Refusal>
+    ensures { Repeats n kind.number bits out.old result out.new }
 {
+    let k = kind.number;
     if ty::vector_len(n, k) > out.len() {
         return Err(Refusal::NoRoom);
     }
-    let p = record::put_three(out, 0, b'V', b'v', n);
-    Ok(record::put_literals(n, k, bits, out, p))
+    let mut w = Writer { out, at: 0 };
+    w.put_three(b'V', b'v', n);
+    w.put_literals(n, k, bits);
+    Ok(w.at)
 }
 
 // ---- one argument
 
 // One argument to an untemplated vector: "one literal repeated; one vector of n kept (7)". Anything else is one part,
 // and a vector has at least two.
-pub fn qv_one(n: u8, args: &[u8], out: &mut [u8]) -> Result<usize, Refusal>
-    requires sides { T (side n) }
-    requires one_arg { OneArg args.now }
-    ensures { QvOne n args.now out.old result out.new }
+pub fn qv_one(n: u8, arg: Value, out: &mut [u8]) -> Result<usize, Refusal>
+    requires { T (side n) }
+    ensures { QvOne n arg.entry.bytes.now out.old result out.new }
 {
-    let mark = args[1];
+    let mark = arg.bytes[1];
     if mark == b's' {
-        let k = args[2];
-        let bits = record::payload_at(args, 0);
-        return repeated(n, k, bits, out);
+        let literal = conv::literal_at(arg.bytes, 0);
+        let kind = Kind {
+            number: literal.kind,
+        };
+        return repeated(n, kind, literal.bits, out);
     }
     if mark == b'v' {
-        if args[2] != n {
+        if arg.bytes[2] != n {
             return Err(Refusal::Mismatch);
         }
-        return error::hand(args, out);
+        return error::hand(arg.bytes, out);
     }
     Err(Refusal::Count {
         wanted: n as usize,
@@ -55,51 +61,57 @@ pub fn qv_one(n: u8, args: &[u8], out: &mut [u8]) -> Result<usize, Refusal>
 }
 
 // One literal to a vector type: "one literal converts and is repeated (9)".
-fn splat(n: u8, k: u8, args: &[u8], out: &mut [u8]) -> Result<usize, Refusal>
-    requires some_kind { SomeKind k }
-    requires one_arg { OneArg args.now }
-    requires mark { get_or args.now 1 0 ≡ ‘s’ }
-    ensures { Splats n k args.now out.old result out.new }
+fn splat(n: u8, kind: Kind, arg: Value, out: &mut [u8]) -> Result<usize, Refusal>
+    requires { get_or arg.bytes.now 1 0 ≡ ‘s’ }
+    ensures { Splats n kind.number arg.entry.bytes.now out.old result out.new }
 {
-    let bits = record::payload_at(args, 0);
-    let payload = literal::convert_literal(k, args[2], bits).ok_or(Refusal::NoConversion)?;
-    repeated(n, k, payload, out)
+    let literal = conv::literal_at(arg.bytes, 0);
+    let bits = literal
+        .convert_to(kind.number)
+        .ok_or(Refusal::NoConversion)?;
+    repeated(n, kind, bits, out)
 }
 
-// One vector to a vector type: "needs equal n (7), then the scalar constructor on each component"; an abstract vector type has none (12).
-fn rebuilt(rules: Rules, n: u8, k: u8, args: &[u8], out: &mut [u8]) -> Result<usize, Refusal>
-    requires some_kind { SomeKind k }
-    requires one_arg { OneArg args.now }
-    requires mark { get_or args.now 1 0 ≡ ‘v’ }
-    ensures { VecOne rules n k args.now out.old result out.new }
+// One vector to a vector type: "needs equal n (7), then the scalar constructor on each component"; an abstract vector
+// type has none (12).
+fn rebuilt(rules: Rules, n: u8, kind: Kind, arg: Value, out: &mut [u8]) -> Result<usize, Refusal>
+    requires { get_or arg.bytes.now 1 0 ≡ ‘v’ }
+    ensures { VecOne rules n kind.number arg.entry.bytes.now out.old result out.new }
 {
-    if args[2] != n {
+    if arg.bytes[2] != n {
         return Err(Refusal::Mismatch);
     }
-    let kind = Scalar { kind: k };
-    if kind.is_abstract() {
+    let k = kind.number;
+    let scalar = Scalar { kind: k };
+    if scalar.is_abstract() {
         return Err(Refusal::VectorPart);
     }
-    scalar::all_made(rules, args, 0, args.len(), k)?;
+    scalar::all_made(rules, arg.bytes, k)?;
     if ty::vector_len(n, k) > out.len() {
         return Err(Refusal::NoRoom);
     }
-    Ok(scalar::write_made(rules, args, 0, args.len(), k, out, 0))
+    let mut w = Writer { out, at: 0 };
+    scalar::write_made(rules, arg.bytes, k, &mut w);
+    Ok(w.at)
 }
 
 // One argument to a vector type. Anything but a literal or a vector is one part, and a vector has at least two.
-pub fn vec_one(rules: Rules, n: u8, k: u8, args: &[u8], out: &mut [u8]) -> Result<usize, Refusal>
-    requires sides { T (side n) }
-    requires some_kind { SomeKind k }
-    requires one_arg { OneArg args.now }
-    ensures { VecOne rules n k args.now out.old result out.new }
+pub fn vec_one(
+    rules: Rules,
+    n: u8,
+    kind: Kind,
+    arg: Value,
+    out: &mut [u8],
+) -> Result<usize, Refusal>
+    requires { T (side n) }
+    ensures { VecOne rules n kind.number arg.entry.bytes.now out.old result out.new }
 {
-    let mark = args[1];
+    let mark = arg.bytes[1];
     if mark == b's' {
-        return splat(n, k, args, out);
+        return splat(n, kind, arg, out);
     }
     if mark == b'v' {
-        return rebuilt(rules, n, k, args, out);
+        return rebuilt(rules, n, kind, arg, out);
     }
     Err(Refusal::Count {
         wanted: n as usize,
@@ -176,19 +188,18 @@ fn all_flat(args: &[u8]) -> bool
 }
 
 // The literals of the arguments, converted to the kind k.
-fn put_parts(k: u8, args: &[u8], out: &mut [u8], to: usize) -> usize
-    requires { SomeRoom k args.now out.old to }
-    ensures { PartsPut k args.now out.old to result out.new }
+fn put_parts(k: u8, args: &[u8], w: &mut Writer)
+    requires { SomeRoom k args.now w.old.out.now w.old.at }
+    ensures put { PartsPut k args.now w.old.out.now w.old.at w.new.at w.new.out.now }
+    ensures same_reference { w.new.out.ghost_name ≡ w.old.out.ghost_name }
 {
     let mut i = 0;
-    let mut p = to;
     while i < args.len() {
         let from = first_literal(args, i);
         let end = args::next_arg(args, i);
-        p = conv::convert_items(args, from, end, k, out, p);
+        conv::convert_items(&args[from..end], k, w);
         i = end;
     }
-    p
 }
 
 // The vector of those literals, if there is room for it.
@@ -199,17 +210,19 @@ fn write_parts(n: u8, k: u8, args: &[u8], out: &mut [u8]) -> Result<usize, Refus
     if ty::vector_len(n, k) > out.len() {
         return Err(Refusal::NoRoom);
     }
-    let p = record::put_three(out, 0, b'V', b'v', n);
-    Ok(put_parts(k, args, out, p))
+    let mut w = Writer { out, at: 0 };
+    w.put_three(b'V', b'v', n);
+    put_parts(k, args, &mut w);
+    Ok(w.at)
 }
 
 // Arguments to a vector type: "vectors are flattened, count (8), then conversion (9)".
-pub fn vec_parts(n: u8, k: u8, args: &[u8], out: &mut [u8]) -> Result<usize, Refusal>
+pub fn vec_parts(n: u8, kind: Kind, args: &[u8], out: &mut [u8]) -> Result<usize, Refusal>
     requires sides { T (side n) }
-    requires some_kind { SomeKind k }
     requires some_row { SomeRow args.now 0 }
-    ensures { VecParts n k args.now out.old result out.new }
+    ensures { VecParts n kind.number args.now out.old result out.new }
 {
+    let k = kind.number;
     let m = flat_count(args);
     let wanted = n as usize;
     if m != wanted {
@@ -218,25 +231,25 @@ pub fn vec_parts(n: u8, k: u8, args: &[u8], out: &mut [u8]) -> Result<usize, Ref
     if !all_flat(args) {
         return Err(Refusal::NoConversion);
     }
-    if !conv::fits(args, 0, args.len(), k) {
+    if !conv::fits(args, k) {
         return Err(Refusal::NoConversion);
     }
     write_parts(n, k, args, out)
 }
 
-// The parts of the arguments to their common type, whose record `ty` is: a literal that does not fit it is 10, then "scalars only (12)".
-fn to_common(n: u8, args: &[u8], ty: &[u8], out: &mut [u8]) -> Result<usize, Refusal>
-    requires { SomeCommon n args.now ty.now }
-    ensures { ToCommon n args.now ty.now out.old result out.new }
+// The parts of the arguments to their common type: a literal that does not fit it is 10, then "scalars only (12)".
+fn to_common(n: u8, args: &[u8], ty: Type, out: &mut [u8]) -> Result<usize, Refusal>
+    requires { SomeCommon n args.now ty.bytes.now }
+    ensures { ToCommon n args.now ty.entry.bytes.now out.old result out.new }
 {
-    if ty[1] == b's' {
-        let k = ty[2];
-        if !conv::fits(args, 0, args.len(), k) {
+    if ty.bytes[1] == b's' {
+        let k = ty.bytes[2];
+        if !conv::fits(args, k) {
             return Err(Refusal::NoCommonType);
         }
         return write_parts(n, k, args, out);
     }
-    if !convert_all::all_fit(args, 0, ty, 0, Limit::DEPTH) {
+    if !convert_all::all_fit(args, 0, ty.bytes, 0, Limit::DEPTH) {
         return Err(Refusal::NoCommonType);
     }
     Err(Refusal::VectorPart)
@@ -253,7 +266,7 @@ pub fn qv_parts(n: u8, args: &[u8], out: &mut [u8]) -> Result<usize, Refusal>
     if given != wanted {
         return Err(Refusal::Count { wanted, given });
     }
-    let mut ty = [0u8; Limit::TYPE_BYTES];
-    let q = common_type::common_type_of(args, true, &mut ty).ok_or(Refusal::NoCommonType)?;
-    to_common(n, args, &ty[..q], out)
+    let mut buf = [0u8; Limit::TYPE_BYTES];
+    let ty = common_type::common_type_of(args, true, &mut buf).ok_or(Refusal::NoCommonType)?;
+    to_common(n, args, ty, out)
 }

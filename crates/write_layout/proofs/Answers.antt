@@ -4,16 +4,16 @@ use mathlib.Core.List.{List}
 use mathlib.Core.Bool.{Bool, true, false}
 use Prim.Native.Nat.{ℕ, ◌≤◌, ◌<◌}
 use native.Mathlib.Omega.{arith}
-use lib.ListN.{length, take}
-use lib.Seq.{length-take-le}
+use lib.ListN.{length}
 use borrow.Author.Tests.{le-leb, lt-leb}
-use Rattle.meaning.specs.Trees.{Ty, Val, type_of}
+use Rattle.meaning.specs.Trees.{Val, type_of}
+use Rattle.meaning.specs.Records.{good_ty}
 use Rattle.meaning.specs.Answers.{ok, no}
 use Rattle.meaning.specs.Layout.{has_layout, size_of, mem_bytes, write_answer}
 use Rattle.laws.proofs.Sound.{Bytes}
-use Rattle.ty.specs.Stands.{Stands}
-use Rattle.args.specs.OneValue.{OneValue}
-use Rattle.args.proofs.OneValue.{one_shaped, one_has, one_read, none_read}
+use Rattle.ty.proofs.Targets.{whole_bytes, good_length}
+use Rattle.args.specs.OneValue.{OneValue, Found}
+use Rattle.args.proofs.OneValue.{one_shaped, one_type, one_has, one_read, none_read}
 use Rattle.memory.specs.Padding.{Padded}
 use Rattle.memory.proofs.Length.{mem_size}
 use Rattle.write_layout.specs.Memory.{written, Asked, Value, ValueRoom}
@@ -41,9 +41,16 @@ module _ (v : Val) (room : ℕ) {b : Bool} (h : b ≡ has_layout (type_of v)) wh
     unfolding written
     has_room l = rw (← h, q, le-leb (size_of (type_of v)) room l)
 
+pub found_asked : {ty args : List ℕ} (f : Found args ty) → Asked ty args f.value
+found_asked f = record { type = f.whole; value = f.one }
+
 -- ---- the value that is written, from the front of the buffer on
 
 module _ {ty args : List ℕ} {v : Val} (x : Asked ty args v) where
+  pub asked_short : length ty ≤ 4096
+  unfolding good_ty
+  asked_short = good_length 15 4096 ty 0 (type_of v) (whole_bytes x.type) (one_type x.value)
+
   pub asked_long : length (mem_bytes v) ≡ size_of (type_of v)
   asked_long = mem_size v (one_shaped x.value)
 
@@ -53,7 +60,3 @@ module _ {ty args : List ℕ} {v : Val} (x : Asked ty args v) where
 
     pub asked_room : (out : List ℕ) → size_of (type_of v) ≤ length out → ValueRoom 15 ty 0 pads args 0 out 0
     asked_room out h = record { value = v; ty_end = length ty; end = length args; is = asked_value; room = omega (arith, asked_long) }
-
--- a type's record at the front of a buffer of 4,096 bytes is not longer
-pub front_short : {s : List ℕ} {t : Ty} {q : ℕ} → Stands 15 s 0 t q → length s ≡ 4096 → length (take q s) ≤ 4096
-front_short {s} {q = q} w e = omega (arith, length-take-le q s w.within, w.within)

@@ -13,7 +13,7 @@ use Rattle.ty.specs.declared.Head.{Head}
 use Rattle.ty.specs.declared.Head.TheVariants.{Scalar, Vector, Matrix, Array, Struct}
 use Rattle.ty.proofs.Heads.{array_is, struct_is}
 use Rattle.record.specs.Bytes.{Put, Takes}
-use Rattle.record.proofs.Puts.{put_put}
+use Rattle.record.proofs.Puts.{put_put, put_length}
 use Rattle.write_layout.specs.Memory.{LiteralsRoom, LiteralsMoved, ColumnsRoom, ColumnsMoved, Value, ValueRoom, Elements}
 use Rattle.write_layout.specs.Memory.{ElementsRoom, ElementsMoved, MembersRoom, MembersMoved}
 use Rattle.write_layout.proofs.Parts.{in_table}
@@ -53,38 +53,17 @@ module _ {d : ℕ} {ty : List ℕ} {o : ℕ} {pads s : List ℕ} {at : ℕ} {out
       pub scalar_room : LiteralsRoom s at 1 k out to
       scalar_room = literals_room (scalar_value p.is (told f)).0 p.room
 
-      pub scalar_type : o + 3 ≤ length ty
-      scalar_type = omega (arith, (scalar_value p.is (told f)).1, p.is.stands.within)
-
     module _ {n k : ℕ} (f : r ≡ Vector n k) where
-      pub vector_here : at + 3 ≤ length s
-      vector_here = let b = (vector_value p.is (told f)).0.has.bytes in omega (arith, b.size, b.within)
-
       pub vector_room : {rows : ℕ} → rows ≡ n → LiteralsRoom s (at + 3) rows k out to
       vector_room m = rw m (literals_room (vector_value p.is (told f)).0 p.room)
 
-      pub vector_type : o + 6 ≤ length ty
-      vector_type = omega (arith, (vector_value p.is (told f)).1, p.is.stands.within)
-
     module _ {c w k : ℕ} (f : r ≡ Matrix c w k) where
-      pub matrix_here : at + 4 ≤ length s
-      matrix_here = let b = (matrix_value p.is (told f)).0.has.bytes in omega (arith, b.size, b.within)
-
       pub matrix_room : {cols : ℕ} → cols ≡ c → ColumnsRoom s (at + 4) cols w k (get_or pads o 0) out to
       matrix_room m = rw m (columns_room (matrix_value p.is (told f)).0 p.room)
-
-      pub matrix_type : o + 7 ≤ length ty
-      matrix_type = omega (arith, (matrix_value p.is (told f)).1, p.is.stands.within)
 
     module _ {n : ℕ} (f : r ≡ Array n) where
       elements : ElementsOf (d - 1) ty (o + 4) n (get_or pads o 0) pads s (at + 4) p.ty_end p.end (mem_bytes p.value)
       elements = array_value p.is (told f)
-
-      pub array_here : at + 4 ≤ length s
-      array_here = let b = elements.are.bytes in omega (arith, b.size, b.within)
-
-      pub array_type : o + 4 ≤ length ty
-      array_type = let w = elements.are.stands in omega (arith, w.size, w.within)
 
       pub array_deep : 1 ≤ d
       array_deep = (array_is p.is.stands (told f)).deep
@@ -107,12 +86,6 @@ module _ {d : ℕ} {ty : List ℕ} {o : ℕ} {pads s : List ℕ} {at : ℕ} {out
       members_long : length (mem_bytes p.value) ≡ length (mem_members 0 members.values) + length (zeros (get_or pads o 0))
       members_long = ap length members.mem ∙ length-append (mem_members 0 members.values) (zeros (get_or pads o 0))
 
-      pub struct_here : at + 6 ≤ length s
-      struct_here = let b = members.are.bytes in omega (arith, b.size, b.within)
-
-      pub struct_type : o + 6 ≤ length ty
-      struct_type = let w = members.are.stands in omega (arith, w.size, w.within)
-
       pub struct_deep : 1 ≤ d
       struct_deep = (struct_is p.is.stands (told f)).deep
 
@@ -129,9 +102,10 @@ module _ {d : ℕ} {ty : List ℕ} {o : ℕ} {pads s : List ℕ} {at : ℕ} {out
 
       -- behind the members
       pub struct_pad : {q' e' q : ℕ} {between : List ℕ} → MembersMoved (d - 1) ty (o + 6) n pads s (at + 6) out to q' e' q between
-          → length between ≡ length out
           → Takes between q (zeros (get_or pads o 0))
-      struct_pad y l = omega (arith, (y p.ty_end p.end 0 members.values members.are).2.end, p.room, members_long)
+      struct_pad y =
+          let w = (y p.ty_end p.end 0 members.values members.are).2 in
+          omega (arith, w.end, put_length w, p.room, members_long)
 
 -- ---- what each arm of `write_value` and `write_member` has written
 
@@ -185,15 +159,9 @@ module _ {d : ℕ} {ty : List ℕ} {o n pad : ℕ} {pads s : List ℕ} {at : ℕ
       pub scalars_room : LiteralsRoom s at n k out to
       scalars_room = literals_room (scalar_elements p.are (element_told f)).0 p.room
 
-      pub scalars_type : o + 3 ≤ length ty
-      scalars_type = omega (arith, (scalar_elements p.are (element_told f)).1, p.are.stands.within)
-
     module _ {w k : ℕ} (f : r ≡ Vector w k) where
       pub vectors_room : ColumnsRoom s at n w k pad out to
       vectors_room = columns_room (vector_elements p.are (element_told f)).0 p.room
-
-      pub vectors_type : o + 6 ≤ length ty
-      vectors_type = omega (arith, (vector_elements p.are (element_told f)).1, p.are.stands.within)
 
 module _ {d : ℕ} {ty : List ℕ} {o n pad : ℕ} {pads s : List ℕ} {at q e : ℕ} {t : Ty} {l : Vals}
     (x : Elements d ty o n pad pads s at q e t l) {h : Head} (a : HeadAt d ty o h) where

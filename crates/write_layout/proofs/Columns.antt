@@ -80,11 +80,8 @@ module _ {s : List ℕ} {n r k pad e : ℕ} {j : Kind} {cols₀ : List (List ℕ
         ∙ (append_assoc (mem_vec j here.payloads) (zeros (col_stride r j - r * scalar_size j)) behind
         ∙ ap (λ (n : ℕ). mem_vec j here.payloads ++ (zeros n ++ behind)) (sym g.has.padding))
 
-    pub column_here : i + 3 ≤ length s
-    column_here = here.within
-
     module _ {rows : ℕ} (m : rows ≡ r) where
-      pub column_room : Takes out to (joined (mem_col r j) cols₀) → LiteralsRoom s (i + 3) rows k out p
+      pub column_room : Takes out₀ to (joined (mem_col r j) cols₀) → LiteralsRoom s (i + 3) rows k out p
       column_room l =
           record {
             kind = j;
@@ -102,7 +99,7 @@ module _ {s : List ℕ} {n r k pad e : ℕ} {j : Kind} {cols₀ : List (List ℕ
         padding_left : Left out₀ to (joined (mem_col r j) cols₀) between q (zeros pad ++ behind)
         padding_left = left_on g.rest (mem_vec j here.payloads) (zeros pad ++ behind) mem moved.1
 
-        pub column_pad : Takes between to (joined (mem_col r j) cols₀) → Takes between q (zeros pad)
+        pub column_pad : Takes out₀ to (joined (mem_col r j) cols₀) → Takes between q (zeros pad)
         column_pad l = left_room padding_left (zeros pad) behind refl l
 
         pub column_on : {t : ℕ} {out' : List ℕ} → Put between q (zeros pad) t out'

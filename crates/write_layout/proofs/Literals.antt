@@ -90,7 +90,7 @@ module _ {s : List ℕ} {n k e : ℕ} {j : Kind} {ps₀ out₀ : List ℕ} {to i
     pub literal_here : i + (3 + w) ≤ length s
     literal_here = omega (arith, here.within, wide)
 
-    pub literal_room : Takes out to (mem_vec j ps₀) → p + size ≤ length out
+    pub literal_room : Takes out₀ to (mem_vec j ps₀) → p + size ≤ length out
     literal_room l = omega (
       arith,
       left_room g.rest (le size here.payload) (mem_vec j here.others) mem l,

@@ -105,7 +105,7 @@ module _ {d : ℕ} {ty : List ℕ} {o n pad : ℕ} {pads s : List ℕ} {at q e :
           ∙ ap (λ (m : ℕ). mem_bytes element.value ++ (zeros m ++ behind))
           (ap (λ (u : Ty). stride u - size_of u) all_types.0 ∙ sym x.padding)
 
-      pub each_room : Takes out to (mem_elements l₀) → ValueRoom d ty o pads s i out p
+      pub each_room : Takes out₀ to (mem_elements l₀) → ValueRoom d ty o pads s i out p
       each_room l =
           record {
             value = element.value;
@@ -122,7 +122,7 @@ module _ {d : ℕ} {ty : List ℕ} {o n pad : ℕ} {pads s : List ℕ} {at q e :
         padding_left : Left out₀ to (mem_elements l₀) between r (zeros pad ++ behind)
         padding_left = left_on g.rest (mem_bytes element.value) (zeros pad ++ behind) element_mem element_moved.2
 
-        pub each_pad : Takes between to (mem_elements l₀) → Takes between r (zeros pad)
+        pub each_pad : Takes out₀ to (mem_elements l₀) → Takes between r (zeros pad)
         each_pad l = left_room padding_left (zeros pad) behind refl l
 
         pub each_on : {z : ℕ} {out' : List ℕ} → Put between r (zeros pad) z out' → EachLeft s q e n t l₀ out₀ to q' e' z (done + 1) out'
@@ -207,7 +207,7 @@ module _ {d : ℕ} {ty : List ℕ} {n : ℕ} {pads s : List ℕ} {q e off₀ : �
     pub all_here : o + 1 < length pads
     all_here = omega (arith, in_table type.first, type.rest.size, g.are.long)
 
-    pub all_pad : Takes out to (mem_members off₀ l₀) → Takes out p (zeros (get_or pads (o + 1) 0))
+    pub all_pad : Takes out₀ to (mem_members off₀ l₀) → Takes out p (zeros (get_or pads (o + 1) 0))
     all_pad l = left_room g.rest (zeros (get_or pads (o + 1) 0)) (mem_bytes member.value ++ after) member_mem l
 
     -- behind the padding
@@ -215,7 +215,7 @@ module _ {d : ℕ} {ty : List ℕ} {n : ℕ} {pads s : List ℕ} {q e off₀ : �
       member_left : Left out₀ to (mem_members off₀ l₀) between b (mem_bytes member.value ++ after)
       member_left = left_on g.rest (zeros (get_or pads (o + 1) 0)) (mem_bytes member.value ++ after) member_mem w
 
-      pub all_room : Takes between to (mem_members off₀ l₀) → ValueRoom d ty o pads s i between b
+      pub all_room : Takes out₀ to (mem_members off₀ l₀) → ValueRoom d ty o pads s i between b
       all_room l =
           record {
             value = member.value;

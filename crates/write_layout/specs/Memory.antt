@@ -130,12 +130,7 @@ written v room = need (has_layout (type_of v)) 25 >> (need (leb (size_of (type_o
 -- the arguments are the value v, and ty is its type
 pub record Asked (ty args : List ℕ) (v : Val) : Type 0 where
   pub type : Whole ty (type_of v)
-  pub short : length ty ≤ 4096
   pub value : OneValue args v
-
-pub record SomeAsked (ty args : List ℕ) : Type 0 where
-  pub value : Val
-  pub asked : Asked ty args value
 
 abbrev pub Writes : List ℕ → List ℕ → List ℕ → Written → List ℕ → Type 0
 Writes ty args out r out' = (v : Val) → Asked ty args v → Told (written v (length out)) out r out'

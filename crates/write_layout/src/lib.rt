@@ -1,283 +1,217 @@
 // The entry `write_layout`: one value in WGSL's memory layout. Decided first, then measured, then written.
 #![tactic(auto)]
 
-ghost use Rattle.std.specs.Prelude.{length};
+ghost use Rattle.std.specs.Prelude.{◌≡◌, length};
 ghost use Rattle.meaning.specs.Layout.{zeros, write_answer};
 ghost use Rattle.record.specs.Bytes.{Put, Takes};
 ghost use Rattle.error.specs.Told.{Told};
+ghost use Rattle.args.specs.OneValue.{Found};
 ghost use Rattle.write_layout.specs.Memory.{LiteralsRoom, LiteralsMoved, ColumnsRoom, ColumnsMoved, ElementsRoom, ElementsMoved};
-ghost use Rattle.write_layout.specs.Memory.{MembersRoom, MembersMoved, ValueRoom, ValueMoved, SomeAsked, Writes};
+ghost use Rattle.write_layout.specs.Memory.{MembersRoom, MembersMoved, ValueRoom, ValueMoved, Writes};
 
 use error::Refusal;
-use memory::{Moved, Through};
-use ty::{Head, Limit};
+use memory::{Places, Source};
+use record::Writer;
+use ty::{Head, Limit, Type};
 
 // "Padding is written as zero": n bytes of it.
-fn put_zeros(out: &mut [u8], to: usize, n: u8) -> usize
-    requires { Takes out.old to (zeros n) }
-    ensures { Put out.old to (zeros n) result out.new }
+fn put_zeros(n: u8, w: &mut Writer)
+    requires { Takes w.old.out.now w.old.at (zeros n) }
+    ensures put { Put w.old.out.now w.old.at (zeros n) w.new.at w.new.out.now }
+    ensures same_reference { w.new.out.ghost_name ≡ w.old.out.ghost_name }
 {
+    let to = w.at;
     let end = to + usize::from(n);
-    out[to..end].fill(0);
-    end
+    w.out[to..end].fill(0);
+    w.at = end;
 }
 
-// The scalars of n literals of the kind k, whose records stand at `at`: a vector's, a column's, and an array's where it has scalars.
-fn write_literals(s: &[u8], at: usize, n: u16, k: u8, out: &mut [u8], to: usize) -> Through
-    requires { LiteralsRoom s.now at n k out.old to }
-    ensures { LiteralsMoved s.now at n k out.old to result.from result.out out.new }
+// The scalars of n literals of the kind k, whose records stand at `at`: a vector's, a column's, and an array's where it
+// has scalars. Answers where the last of them ends. Inlined, since most values have a few scalars in a row.
+#[inline(always)]
+fn write_literals(s: &[u8], at: usize, n: u16, k: u8, w: &mut Writer) -> usize
+    requires { LiteralsRoom s.now at n k w.old.out.now w.old.at }
+    ensures moved { LiteralsMoved s.now at n k w.old.out.now w.old.at result w.new.at w.new.out.now }
+    ensures same_reference { w.new.out.ghost_name ≡ w.old.out.ghost_name }
 {
-    let w = record::width(k);
+    let wide = record::width(k);
     let size = memory::scalar_size(k);
+    let mut own = Writer {
+        out: &mut *w.out,
+        at: w.at,
+    };
     let mut i = at;
-    let mut p = to;
     for _ in 0..n {
-        p = record::put_le(out, p, size, record::number(s, i + 3, w));
-        i += 3 + w;
+        own.put_le(size, record::number(s, i + 3, wide));
+        i += 3 + wide;
     }
-    Through { from: i, out: p }
+    w.at = own.at;
+    i
 }
 
 // The n vectors of r literals that stand at `at`, each with its padding behind it: the columns of a matrix, and an
-// array's elements where they are vectors.
-fn write_columns(
-    s: &[u8],
-    at: usize,
-    n: u16,
-    r: u8,
-    k: u8,
-    pad: u8,
-    out: &mut [u8],
-    to: usize,
-) -> Through
-    requires { ColumnsRoom s.now at n r k pad out.old to }
-    ensures { ColumnsMoved s.now at n r k pad out.old to result.from result.out out.new }
+// array's elements where they are vectors. Answers where the last of them ends.
+fn write_columns(s: &[u8], at: usize, n: u16, r: u8, k: u8, pad: u8, w: &mut Writer) -> usize
+    requires { ColumnsRoom s.now at n r k pad w.old.out.now w.old.at }
+    ensures moved { ColumnsMoved s.now at n r k pad w.old.out.now w.old.at result w.new.at w.new.out.now }
+    ensures same_reference { w.new.out.ghost_name ≡ w.old.out.ghost_name }
 {
     let rows = u16::from(r);
     let mut i = at;
-    let mut p = to;
     for _ in 0..n {
-        let col = write_literals(s, i + 3, rows, k, out, p);
-        i = col.from;
-        p = put_zeros(out, col.out, pad);
+        i = write_literals(s, i + 3, rows, k, w);
+        put_zeros(pad, w);
     }
-    Through { from: i, out: p }
+    i
 }
 
-// The n elements that stand at `at`, of the type that stands at `o`, each with its padding behind it. Scalars and
-// vectors are seen to before.
+// The n elements that stand at a place, of the type that stands at another, each with its padding behind it. Scalars
+// and vectors are seen to before. Answers where the type and the last element end.
 #[cycle(each_element_write_elements_write_member_write_members_write_value)]
-fn each_element(
-    ty: &[u8],
-    o: usize,
-    n: u16,
-    pad: u8,
-    pads: &[u8],
-    depth: u8,
-    s: &[u8],
-    at: usize,
-    out: &mut [u8],
-    to: usize,
-) -> Moved
-    requires { ElementsRoom depth ty.now o n pad pads.now s.now at out.old to }
-    ensures { ElementsMoved depth ty.now o n pad pads.now s.now at out.old to result.ty
-        result.from result.out out.new }
+fn each_element(src: &Source, at: Places, n: u16, pad: u8, depth: u8, w: &mut Writer) -> Places
+    requires { ElementsRoom depth src.now.ty.now at.ty n pad src.now.pads.now src.now.bytes.now at.from
+        w.old.out.now w.old.at }
+    ensures moved { ElementsMoved depth src.now.ty.now at.ty n pad src.now.pads.now src.now.bytes.now
+        at.from w.old.out.now w.old.at result.ty result.from w.new.at w.new.out.now }
+    ensures same_reference { w.new.out.ghost_name ≡ w.old.out.ghost_name }
 {
-    let mut end = o;
-    let mut i = at;
-    let mut p = to;
+    let mut all = at;
     for _ in 0..n {
-        let w = write_value(ty, o, pads, depth, s, i, out, p);
-        end = w.ty;
-        i = w.from;
-        p = put_zeros(out, w.out, pad);
+        let element = Places {
+            from: all.from,
+            ..at
+        };
+        all = write_value(src, element, depth, w);
+        put_zeros(pad, w);
     }
-    Moved {
-        ty: end,
-        from: i,
-        out: p,
-    }
+    all
 }
 
 // The same; where the type is a scalar's or a vector's, without asking for it again at each element.
 #[cycle(each_element_write_elements_write_member_write_members_write_value)]
-fn write_elements(
-    ty: &[u8],
-    o: usize,
-    n: u16,
-    pad: u8,
-    pads: &[u8],
-    depth: u8,
-    s: &[u8],
-    at: usize,
-    out: &mut [u8],
-    to: usize,
-) -> Moved
-    requires { ElementsRoom depth ty.now o n pad pads.now s.now at out.old to }
-    ensures { ElementsMoved depth ty.now o n pad pads.now s.now at out.old to result.ty
-        result.from result.out out.new }
+fn write_elements(src: &Source, at: Places, n: u16, pad: u8, depth: u8, w: &mut Writer) -> Places
+    requires { ElementsRoom depth src.now.ty.now at.ty n pad src.now.pads.now src.now.bytes.now at.from
+        w.old.out.now w.old.at }
+    ensures moved { ElementsMoved depth src.now.ty.now at.ty n pad src.now.pads.now src.now.bytes.now
+        at.from w.old.out.now w.old.at result.ty result.from w.new.at w.new.out.now }
+    ensures same_reference { w.new.out.ghost_name ≡ w.old.out.ghost_name }
 {
-    let h = ty::head_at(ty, o, depth);
+    let h = ty::head_at(src.ty, at.ty, depth);
     if let Head::Scalar(k) = h {
-        let w = write_literals(s, at, n, k, out, to);
-        return Moved {
-            ty: o + 3,
-            from: w.from,
-            out: w.out,
+        let from = write_literals(src.bytes, at.from, n, k, w);
+        return Places {
+            ty: at.ty + 3,
+            from,
         };
     }
     if let Head::Vector(r, k) = h {
-        let w = write_columns(s, at, n, r, k, pad, out, to);
-        return Moved {
-            ty: o + 6,
-            from: w.from,
-            out: w.out,
+        let from = write_columns(src.bytes, at.from, n, r, k, pad, w);
+        return Places {
+            ty: at.ty + 6,
+            from,
         };
     }
-    each_element(ty, o, n, pad, pads, depth, s, at, out, to)
+    each_element(src, at, n, pad, depth, w)
 }
 
-// The n members that stand at `at`, of the types that stand at `o`, each with the padding before it that the table says.
+// The n members that stand at a place, of the types that stand at another, each with the padding before it that the
+// table says.
 #[cycle(each_element_write_elements_write_member_write_members_write_value)]
-fn write_members(
-    ty: &[u8],
-    o: usize,
-    n: u16,
-    pads: &[u8],
-    depth: u8,
-    s: &[u8],
-    at: usize,
-    out: &mut [u8],
-    to: usize,
-) -> Moved
-    requires { MembersRoom depth ty.now o n pads.now s.now at out.old to }
-    ensures { MembersMoved depth ty.now o n pads.now s.now at out.old to result.ty
-        result.from result.out out.new }
+fn write_members(src: &Source, at: Places, n: u16, depth: u8, w: &mut Writer) -> Places
+    requires { MembersRoom depth src.now.ty.now at.ty n src.now.pads.now src.now.bytes.now at.from
+        w.old.out.now w.old.at }
+    ensures moved { MembersMoved depth src.now.ty.now at.ty n src.now.pads.now src.now.bytes.now
+        at.from w.old.out.now w.old.at result.ty result.from w.new.at w.new.out.now }
+    ensures same_reference { w.new.out.ghost_name ≡ w.old.out.ghost_name }
 {
-    let mut q = o;
-    let mut i = at;
-    let mut p = to;
+    let mut all = at;
     for _ in 0..n {
-        let start = put_zeros(out, p, pads[q + 1]);
-        let w = write_member(ty, q, pads, depth, s, i, out, start);
-        q = w.ty;
-        i = w.from;
-        p = w.out;
+        put_zeros(src.pads[all.ty + 1], w);
+        all = write_member(src, all, depth, w);
     }
-    Moved {
-        ty: q,
-        from: i,
-        out: p,
-    }
+    all
 }
 
-// The value that stands at `at`, of the type that stands at `o`. The allowed depth is the number that falls.
+// The value that stands at a place, of the type that stands at another. The allowed depth is the number that falls.
 #[cycle(each_element_write_elements_write_member_write_members_write_value)]
-fn write_value(
-    ty: &[u8],
-    o: usize,
-    pads: &[u8],
-    depth: u8,
-    s: &[u8],
-    at: usize,
-    out: &mut [u8],
-    to: usize,
-) -> Moved
-    requires { ValueRoom depth ty.now o pads.now s.now at out.old to }
-    ensures { ValueMoved depth ty.now o pads.now s.now at out.old to result.ty result.from
-        result.out out.new }
+fn write_value(src: &Source, at: Places, depth: u8, w: &mut Writer) -> Places
+    requires { ValueRoom depth src.now.ty.now at.ty src.now.pads.now src.now.bytes.now at.from w.old.out.now w.old.at }
+    ensures moved { ValueMoved depth src.now.ty.now at.ty src.now.pads.now src.now.bytes.now
+        at.from w.old.out.now w.old.at result.ty result.from w.new.at w.new.out.now }
+    ensures same_reference { w.new.out.ghost_name ≡ w.old.out.ghost_name }
 {
-    match ty::head_at(ty, o, depth) {
-        Head::Scalar(k) => {
-            let w = write_literals(s, at, 1, k, out, to);
-            Moved {
-                ty: o + 3,
-                from: w.from,
-                out: w.out,
-            }
+    match ty::head_at(src.ty, at.ty, depth) {
+        Head::Scalar(k) => Places {
+            ty: at.ty + 3,
+            from: write_literals(src.bytes, at.from, 1, k, w),
+        },
+        Head::Vector(n, k) => Places {
+            ty: at.ty + 6,
+            from: write_literals(src.bytes, at.from + 3, u16::from(n), k, w),
+        },
+        Head::Matrix(c, r, k) => Places {
+            ty: at.ty + 7,
+            from: write_columns(
+                src.bytes,
+                at.from + 4,
+                u16::from(c),
+                r,
+                k,
+                src.pads[at.ty],
+                w,
+            ),
+        },
+        Head::Array(n) => {
+            let first = Places {
+                ty: at.ty + 4,
+                from: at.from + 4,
+            };
+            write_elements(src, first, n, src.pads[at.ty], depth - 1, w)
         }
-        Head::Vector(n, k) => {
-            let w = write_literals(s, at + 3, u16::from(n), k, out, to);
-            Moved {
-                ty: o + 6,
-                from: w.from,
-                out: w.out,
-            }
-        }
-        Head::Matrix(c, r, k) => {
-            let w = write_columns(s, at + 4, u16::from(c), r, k, pads[o], out, to);
-            Moved {
-                ty: o + 7,
-                from: w.from,
-                out: w.out,
-            }
-        }
-        Head::Array(n) => write_elements(
-            ty,
-            o + 4,
-            n,
-            pads[o],
-            pads,
-            depth - 1,
-            s,
-            at + 4,
-            out,
-            to,
-        ),
         Head::Struct(_, n) => {
-            let w = write_members(ty, o + 6, n, pads, depth - 1, s, at + 6, out, to);
-            let p = put_zeros(out, w.out, pads[o]);
-            Moved {
-                ty: w.ty,
-                from: w.from,
-                out: p,
-            }
+            let first = Places {
+                ty: at.ty + 6,
+                from: at.from + 6,
+            };
+            let all = write_members(src, first, n, depth - 1, w);
+            put_zeros(src.pads[at.ty], w);
+            all
         }
     }
 }
 
 // A member: the same, without the walk where it is a scalar or a vector.
 #[cycle(each_element_write_elements_write_member_write_members_write_value)]
-fn write_member(
-    ty: &[u8],
-    o: usize,
-    pads: &[u8],
-    depth: u8,
-    s: &[u8],
-    at: usize,
-    out: &mut [u8],
-    to: usize,
-) -> Moved
-    requires { ValueRoom depth ty.now o pads.now s.now at out.old to }
-    ensures { ValueMoved depth ty.now o pads.now s.now at out.old to result.ty result.from
-        result.out out.new }
+fn write_member(src: &Source, at: Places, depth: u8, w: &mut Writer) -> Places
+    requires { ValueRoom depth src.now.ty.now at.ty src.now.pads.now src.now.bytes.now at.from w.old.out.now w.old.at }
+    ensures moved { ValueMoved depth src.now.ty.now at.ty src.now.pads.now src.now.bytes.now
+        at.from w.old.out.now w.old.at result.ty result.from w.new.at w.new.out.now }
+    ensures same_reference { w.new.out.ghost_name ≡ w.old.out.ghost_name }
 {
-    let h = ty::head_at(ty, o, depth);
+    let h = ty::head_at(src.ty, at.ty, depth);
     if let Head::Scalar(k) = h {
-        let w = write_literals(s, at, 1, k, out, to);
-        return Moved {
-            ty: o + 3,
-            from: w.from,
-            out: w.out,
+        let from = write_literals(src.bytes, at.from, 1, k, w);
+        return Places {
+            ty: at.ty + 3,
+            from,
         };
     }
     if let Head::Vector(n, k) = h {
-        let w = write_literals(s, at + 3, u16::from(n), k, out, to);
-        return Moved {
-            ty: o + 6,
-            from: w.from,
-            out: w.out,
+        let from = write_literals(src.bytes, at.from + 3, u16::from(n), k, w);
+        return Places {
+            ty: at.ty + 6,
+            from,
         };
     }
-    write_value(ty, o, pads, depth, s, at, out, to)
+    write_value(src, at, depth, w)
 }
 
 // ---- the entry
 
-// The one value, whose type's record `ty` is.
-fn write_one(ty: &[u8], args: &[u8], out: &mut [u8]) -> Result<usize, Refusal>
-    requires { SomeAsked ty.now args.now }
-    ensures { Writes ty.now args.now out.old result out.new }
+// The one value, of that type.
+fn write_one(ty: Type, args: &[u8], out: &mut [u8]) -> Result<usize, Refusal>
+    requires { Found args.now ty.bytes.now }
+    ensures { Writes ty.entry.bytes.now args.now out.old result out.new }
 {
     if !layout::has_layout(ty) {
         return Err(Refusal::NoLayout);
@@ -287,8 +221,14 @@ fn write_one(ty: &[u8], args: &[u8], out: &mut [u8]) -> Result<usize, Refusal>
     if extent.size > out.len() {
         return Err(Refusal::NoRoom);
     }
-    let w = write_value(ty, 0, &pads, Limit::DEPTH, args, 0, out, 0);
-    Ok(w.out)
+    let mut w = Writer { out, at: 0 };
+    let src = Source {
+        ty: ty.bytes,
+        pads: &pads,
+        bytes: args,
+    };
+    let _ = write_value(&src, Places { ty: 0, from: 0 }, Limit::DEPTH, &mut w);
+    Ok(w.at)
 }
 
 // The value that the bytes are, as it lies in memory, from the first byte of the buffer on: exactly its type's size.
@@ -297,6 +237,6 @@ pub fn write_layout(args: &[u8], out: &mut [u8]) -> Result<usize, Refusal>
     ensures { Told (write_answer args.now (length out.old)) out.old result out.new }
 {
     let mut buf = [0u8; Limit::TYPE_BYTES];
-    let q = args::one_value(args, &mut buf).ok_or(Refusal::BadArgument)?;
-    write_one(&buf[..q], args, out)
+    let ty = args::one_value(args, &mut buf).ok_or(Refusal::BadArgument)?;
+    write_one(ty, args, out)
 }

@@ -153,7 +153,7 @@ each_first t e n out to end = record { after = λ h. absurd (omega arith); rest 
 
 module _ {d : ℕ} {ty : List ℕ} {at : ℕ} {t : Ty} {e n : ℕ} {out₀ : List ℕ} {to end p i : ℕ} {out : List ℕ} (w : Stands d ty at t e)
     (g : EachLeft t e n out₀ to end p i out) where
-  pub each_room : i < n → Takes out to (times n (val_bytes (zero_of t))) → ZeroRoom d ty at out p
+  pub each_room : i < n → Takes out₀ to (times n (val_bytes (zero_of t))) → ZeroRoom d ty at out p
   each_room h l = record { type = t; end = e; stands = w; room = omega (arith, copies_room g.rest h l, zero_long t w.shaped) }
 
   pub each_on : i < n → {e' q : ℕ} {out' : List ℕ} → Zeroes d ty at out p e' q out' → EachLeft t e n out₀ to e' q (i + 1) out'
@@ -185,7 +185,7 @@ module _ {d : ℕ} {ty : List ℕ} {m₀ : Tys} {e n : ℕ} {out₀ : List ℕ} 
     bytes : vals_bytes (zeros_of g.types) ≡ val_bytes (zero_of first.type) ++ vals_bytes (zeros_of first.others)
     bytes = ap (λ (m : Tys). vals_bytes (zeros_of m)) first.is ∙ more_zeros first.type first.others
 
-    pub all_room : Takes out to (vals_bytes (zeros_of m₀)) → ZeroRoom d ty at out p
+    pub all_room : Takes out₀ to (vals_bytes (zeros_of m₀)) → ZeroRoom d ty at out p
     all_room l =
         record {
           type = first.type;

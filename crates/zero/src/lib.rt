@@ -1,10 +1,9 @@
 // "No arguments with a type record: the zero value": measured from the type's record, then written from it.
 #![tactic(auto)]
 
-ghost use Rattle.std.specs.Prelude.{T};
+ghost use Rattle.std.specs.Prelude.{◌≡◌, T};
 ghost use Rattle.meaning.specs.Records.{side};
 ghost use Rattle.ty.specs.TypeFronts.{kind_number};
-ghost use Rattle.ty.specs.Stands.{OneType};
 ghost use Rattle.record.specs.Bytes.{Put, times, Takes};
 ghost use Rattle.record.specs.Literals.{literal_of};
 ghost use Rattle.zero.specs.Zeros.{vector_of, matrix_of, ZeroRoom, Zeroes, ElementsRoom, ZeroesEach, MembersRoom, ZeroesAll};
@@ -12,137 +11,133 @@ ghost use Rattle.zero.specs.Zeros.{ZeroTold, VectorTold};
 
 use error::Refusal;
 use kind::Scalar;
-use ty::{Head, Limit};
-
-// Where the type's record ends, and where the value's record does.
-#[derive(Clone, Copy)]
-pub struct Zeroed {
-    pub ty: usize,
-    pub out: usize,
-}
+use record::Writer;
+use ty::{Head, Limit, Size, Type};
 
 // ---- values without a type's record: literals, vectors, matrices
 
 // A literal of zero bits.
-fn put_zero(k: u8, out: &mut [u8], to: usize) -> usize
-    requires { Takes out.old to (literal_of k 0) }
-    ensures { Put out.old to (literal_of k 0) result out.new }
+fn put_zero(k: u8, w: &mut Writer)
+    requires { Takes w.old.out.now w.old.at (literal_of k 0) }
+    ensures put { Put w.old.out.now w.old.at (literal_of k 0) w.new.at w.new.out.now }
+    ensures same_reference { w.new.out.ghost_name ≡ w.old.out.ghost_name }
 {
     let scalar = Scalar { kind: k };
-    record::put_literal(out, to, k, scalar.zero_bits())
+    w.put_literal(k, scalar.zero_bits());
 }
 
 // A vector of n zeros.
-fn put_vector(n: u8, k: u8, out: &mut [u8], to: usize) -> usize
-    requires { Takes out.old to (vector_of n k) }
-    ensures { Put out.old to (vector_of n k) result out.new }
+fn put_vector(n: u8, k: u8, w: &mut Writer)
+    requires { Takes w.old.out.now w.old.at (vector_of n k) }
+    ensures put { Put w.old.out.now w.old.at (vector_of n k) w.new.at w.new.out.now }
+    ensures same_reference { w.new.out.ghost_name ≡ w.old.out.ghost_name }
 {
     let scalar = Scalar { kind: k };
-    let p = record::put_three(out, to, b'V', b'v', n);
-    record::put_literals(n, k, scalar.zero_bits(), out, p)
+    w.put_three(b'V', b'v', n);
+    w.put_literals(n, k, scalar.zero_bits());
 }
 
-// c columns of r zeros.
-fn put_zero_columns(c: u8, r: u8, k: u8, out: &mut [u8], to: usize) -> usize
-    requires { Takes out.old to (times c (vector_of r k)) }
-    ensures { Put out.old to (times c (vector_of r k)) result out.new }
+// The columns of a matrix of zeros.
+fn put_zero_columns(size: Size, k: u8, w: &mut Writer)
+    requires { Takes w.old.out.now w.old.at (times size.columns (vector_of size.rows k)) }
+    ensures put { Put w.old.out.now w.old.at (times size.columns (vector_of size.rows k)) w.new.at w.new.out.now }
+    ensures same_reference { w.new.out.ghost_name ≡ w.old.out.ghost_name }
 {
-    let mut p = to;
-    for _ in 0..c {
-        p = put_vector(r, k, out, p);
+    for _ in 0..size.columns {
+        put_vector(size.rows, k, w);
     }
-    p
 }
 
-// A matrix of c columns and r rows.
-fn put_matrix(c: u8, r: u8, k: u8, out: &mut [u8], to: usize) -> usize
-    requires { Takes out.old to (matrix_of c r k) }
-    ensures { Put out.old to (matrix_of c r k) result out.new }
+// A matrix of zeros.
+fn put_matrix(size: Size, k: u8, w: &mut Writer)
+    requires { Takes w.old.out.now w.old.at (matrix_of size.columns size.rows k) }
+    ensures put { Put w.old.out.now w.old.at (matrix_of size.columns size.rows k) w.new.at w.new.out.now }
+    ensures same_reference { w.new.out.ghost_name ≡ w.old.out.ghost_name }
 {
-    let p = record::put_four(out, to, b'V', b'm', c, r);
-    put_zero_columns(c, r, k, out, p)
+    w.put_four(b'V', b'm', size.columns, size.rows);
+    put_zero_columns(size, k, w);
 }
 
-// ---- the value of a type by its record
+// ---- the value of a type by its record; what is returned is where the type's record ends
 
 // n times the zero value of the type that stands at `at`. Each is written from the type's record again, which has no
 // more parts than the value: the time is linear in the bytes written.
 #[cycle(put_zero_elements_put_zero_members_write_zero)]
-fn put_zero_elements(ty: &[u8], at: usize, n: u16, depth: u8, out: &mut [u8], to: usize) -> Zeroed
-    requires { ElementsRoom depth ty.now at n out.old to }
-    ensures { ZeroesEach depth ty.now at n out.old to result.ty result.out out.new }
+fn put_zero_elements(ty: &[u8], at: usize, n: u16, depth: u8, w: &mut Writer) -> usize
+    requires { ElementsRoom depth ty.now at n w.old.out.now w.old.at }
+    ensures zeroes { ZeroesEach depth ty.now at n w.old.out.now w.old.at result w.new.at w.new.out.now }
+    ensures same_reference { w.new.out.ghost_name ≡ w.old.out.ghost_name }
 {
     let mut end = at;
-    let mut p = to;
     for _element in 0..n {
-        let w = write_zero(ty, at, depth, out, p);
-        end = w.ty;
-        p = w.out;
+        end = write_zero(ty, at, depth, w);
     }
-    Zeroed { ty: end, out: p }
+    end
 }
 
 // The zero values of the n types that stand at `at`, in order.
 #[cycle(put_zero_elements_put_zero_members_write_zero)]
-fn put_zero_members(ty: &[u8], at: usize, n: u16, depth: u8, out: &mut [u8], to: usize) -> Zeroed
-    requires { MembersRoom depth ty.now at n out.old to }
-    ensures { ZeroesAll depth ty.now at n out.old to result.ty result.out out.new }
+fn put_zero_members(ty: &[u8], at: usize, n: u16, depth: u8, w: &mut Writer) -> usize
+    requires { MembersRoom depth ty.now at n w.old.out.now w.old.at }
+    ensures zeroes { ZeroesAll depth ty.now at n w.old.out.now w.old.at result w.new.at w.new.out.now }
+    ensures same_reference { w.new.out.ghost_name ≡ w.old.out.ghost_name }
 {
     let mut i = at;
-    let mut p = to;
     for _member in 0..n {
-        let w = write_zero(ty, i, depth, out, p);
-        i = w.ty;
-        p = w.out;
+        i = write_zero(ty, i, depth, w);
     }
-    Zeroed { ty: i, out: p }
+    i
 }
 
 // The zero value of the type that stands at `at`. The allowed depth is the number that falls.
 #[cycle(put_zero_elements_put_zero_members_write_zero)]
-pub fn write_zero(ty: &[u8], at: usize, depth: u8, out: &mut [u8], to: usize) -> Zeroed
-    requires { ZeroRoom depth ty.now at out.old to }
-    ensures { Zeroes depth ty.now at out.old to result.ty result.out out.new }
+pub fn write_zero(ty: &[u8], at: usize, depth: u8, w: &mut Writer) -> usize
+    requires { ZeroRoom depth ty.now at w.old.out.now w.old.at }
+    ensures zeroes { Zeroes depth ty.now at w.old.out.now w.old.at result w.new.at w.new.out.now }
+    ensures same_reference { w.new.out.ghost_name ≡ w.old.out.ghost_name }
 {
     match ty::head_at(ty, at, depth) {
         Head::Scalar(k) => {
-            let p = put_zero(k, out, to);
-            Zeroed { ty: at + 3, out: p }
+            put_zero(k, w);
+            at + 3
         }
         Head::Vector(n, k) => {
-            let p = put_vector(n, k, out, to);
-            Zeroed { ty: at + 6, out: p }
+            put_vector(n, k, w);
+            at + 6
         }
         Head::Matrix(c, r, k) => {
-            let p = put_matrix(c, r, k, out, to);
-            Zeroed { ty: at + 7, out: p }
+            let size = Size {
+                columns: c,
+                rows: r,
+            };
+            put_matrix(size, k, w);
+            at + 7
         }
         Head::Array(n) => {
-            let p = record::put_array(n, out, to);
-            put_zero_elements(ty, at + 4, n, depth - 1, out, p)
+            w.put_array(n);
+            put_zero_elements(ty, at + 4, n, depth - 1, w)
         }
         Head::Struct(i, n) => {
-            let p = record::put_struct(i, n, out, to);
-            put_zero_members(ty, at + 6, n, depth - 1, out, p)
+            w.put_struct(i, n);
+            put_zero_members(ty, at + 6, n, depth - 1, w)
         }
     }
 }
 
 // ---- the answers
 
-// The zero value of the type whose record the target is. Its length follows from the type, so it is measured before
-// anything is written: "22 the accepted record is longer than the lent buffer, also where its length is past 64 bits
-// (zero values of nested arrays)".
-pub fn zero_value(target: &[u8], out: &mut [u8]) -> Result<usize, Refusal>
-    requires { OneType target.now }
-    ensures { ZeroTold target.now out.old result out.new }
+// The zero value of a type. Its length follows from the type, so it is measured before anything is written: "22 the
+// accepted record is longer than the lent buffer, also where its length is past 64 bits (zero values of nested arrays)".
+pub fn zero_value(target: Type, out: &mut [u8]) -> Result<usize, Refusal>
+    ensures { ZeroTold target.entry.bytes.now out.old result out.new }
 {
-    let (_, n) = ty::value_len(target, 0, Limit::DEPTH).ok_or(Refusal::NoRoom)?;
+    let (_, n) = ty::value_len(target.bytes, 0, Limit::DEPTH).ok_or(Refusal::NoRoom)?;
     if n > out.len() {
         return Err(Refusal::NoRoom);
     }
-    let w = write_zero(target, 0, Limit::DEPTH, out, 0);
-    Ok(w.out)
+    let mut w = Writer { out, at: 0 };
+    let _ = write_zero(target.bytes, 0, Limit::DEPTH, &mut w);
+    Ok(w.at)
 }
 
 // A vector of n zeros of the kind k: "`Qv` without arguments: AbstractInt zeros".
@@ -154,5 +149,7 @@ pub fn zero_vector(n: u8, k: u8, out: &mut [u8]) -> Result<usize, Refusal>
     if ty::vector_len(n, k) > out.len() {
         return Err(Refusal::NoRoom);
     }
-    Ok(put_vector(n, k, out, 0))
+    let mut w = Writer { out, at: 0 };
+    put_vector(n, k, &mut w);
+    Ok(w.at)
 }

@@ -15,14 +15,14 @@ returns-then-n-ge-ARGUMENTS c = left_full c.loop-i.invariant c.loop-i-test.true 
 pub returns-in_default : goal.returns-in_default
 returns-in_default c =
     left_bad c.loop-i.invariant c.loop-i-test.true
-    (λ h. let v = type_head c.args.depth c.args.most h in c.in_default.ensures _ record { type = v.type; stands = v.stands })
+    (λ h. let v = type_head c.args.most.depth c.args.most.bytes h in c.in_default.ensures _ record { type = v.type; stands = v.stands })
 
 pub returns-then-e-i : goal.returns-then-e-i
 returns-then-e-i c =
     let f = c.in-Some.ensures in
     left_bad c.loop-i.invariant c.loop-i-test.true
     (λ h.
-    let v = type_head c.args.depth c.args.most h in
+    let v = type_head c.args.most.depth c.args.most.bytes h in
     let q : length (ty_bytes v.type) ≡ length (ty_bytes f.type) = ap (λ (t : Ty). length (ty_bytes t))
     (same_type v.stands f.stands) in
     omega (arith, f.stands.size, v.short, c.if-e-i.true))
@@ -30,10 +30,10 @@ returns-then-e-i c =
 pub loop-i-preserved : goal.loop-i-preserved
 loop-i-preserved c =
     let f = c.in-Some.ensures in
-    type_left c.args.depth c.args.most c.loop-i.invariant c.loop-i-test.true (omega (arith, c.loop-i.invariant.few)) f.stands
+    type_left c.args.most.depth c.args.most.bytes c.loop-i.invariant c.loop-i-test.true (omega (arith, c.loop-i.invariant.few)) f.stands
     (omega (arith, f.stands.size, c.if-e-i.false))
 
 pub returns : goal.returns
 returns c =
-    left_none ty_bytes (TypeArg c.args.depth c.args.most) c.args.s.now c.loop-i.i c.loop-i.n c.loop-i.invariant
+    left_none ty_bytes (TypeArg c.args.most.depth c.args.most.bytes) c.args.s.now c.loop-i.i c.loop-i.n c.loop-i.invariant
     c.loop-i-test.false

@@ -7,7 +7,7 @@ use Rattle.args.specs.Counts.{Left, ValueArg}
 use Rattle.args.proofs.count_values.Given as goal
 
 abbrev pub invariant-loop-i : goal.invariant-loop-i
-invariant-loop-i l = (length l.ty ≡ length l.initial.ty) × Left val_bytes (ValueArg l.depth l.most) l.s l.i l.n
+invariant-loop-i l = (length l.ty ≡ length l.initial.ty) × Left val_bytes (ValueArg l.most.depth l.most.bytes) l.s l.i l.n
 
 abbrev pub decreases-loop-i : goal.decreases-loop-i
 decreases-loop-i l = 65535 - l.n

@@ -1,10 +1,8 @@
 -- The limits are the target's; scalars, vectors and matrices are within all of them.
-use mathlib.Core.Path.{sym, ◌∙◌, subst}
-use mathlib.Core.Bool.{Bool}
 use native.Mathlib.Omega.{arith}
 use Rattle.meaning.specs.Records.{val_bytes}
-use Rattle.args.specs.Counts.{is_qa, depth_for, bytes_for, Rests, ValueArg, Counts}
-use Rattle.args.proofs.Rest.{bytes_most, depth_least, bytes_least, left_none, values_read, tight_is}
+use Rattle.args.specs.Counts.{is_qa, depth_for, bytes_for, ValueArg}
+use Rattle.args.proofs.Rest.{depth_least, bytes_least, left_none, values_read}
 use Rattle.args.proofs.value_args.Goals as goal
 use Rattle.std.specs.declared.option.Option.TheVariants.{Some}
 
@@ -16,13 +14,10 @@ returns-then-flat-s c =
 
 pub other_args-requires : goal.other_args-requires
 other_args-requires c =
-    rw (c.depth_for.ensures, c.bytes_for.ensures)
-    (bytes_most c.is_tight-tight.result, c.flat_args-flat.ensures (depth_for c.is_tight-tight.result) (bytes_for c.is_tight-tight.result) (depth_least c.is_tight-tight.result) (bytes_least c.is_tight-tight.result))
+    let m = c.bounds_for.result in c.flat_args-flat.ensures m.depth m.bytes m.fit.0 m.fit.1
 
 pub returns : goal.returns
 returns c =
-    λ g q. values_read g c.args.s.now (λ i. (c.type_inv.s i).fits)
-    c.other_args.result
-    (subst (λ (t : Bool). Counts (Rests val_bytes (ValueArg (depth_for t) (bytes_for t)) c.args.s.now 0) c.other_args.result)
-    (c.is_tight-tight.ensures ∙ sym (tight_is g q))
-    (rw (c.depth_for.ensures, c.bytes_for.ensures) at c.other_args.ensures))
+    let b = c.bounds_for.ensures in
+    λ g q. values_read g c.args.s.now (λ i. (c.type_inv.s i).fits) c.other_args.result
+    (rw (b.depth g q, b.bytes g q) at c.other_args.ensures)

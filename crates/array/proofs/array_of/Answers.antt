@@ -8,7 +8,7 @@ use Rattle.array.proofs.array_of.Goals as goal
 pub all_convert-requires-clause-asked : goal.all_convert-requires-clause-asked
 all_convert-requires-clause-asked c =
     record {
-      rest = record { values = _; row = c.requires.given.row };
+      rest = record { values = _; row = c.args.args.given.given.row };
       to = record { type = _; end = _; stands = array_elem c.requires.whole };
     }
 
@@ -17,35 +17,35 @@ returns-then-not-all_convert c =
     λ n t l w g. builds_no _ _ (array_nine t l n (sym (c.all_convert.ensures l t _ g.row (array_elem w))
     ∙ c.if-not-all_convert.true))
 
-pub bounds-target-2 : goal.bounds-target-2
-bounds-target-2 c = omega (arith, array_room c.requires.whole)
+pub bounds-ty-2 : goal.bounds-ty-2
+bounds-ty-2 c = omega (arith, array_room c.requires.whole)
 
-pub bounds-target-3 : goal.bounds-target-3
-bounds-target-3 c = omega (arith, array_room c.requires.whole)
+pub bounds-ty-3 : goal.bounds-ty-3
+bounds-ty-3 c = omega (arith, array_room c.requires.whole)
 
-pub returns-then-count-wanted : goal.returns-then-count-wanted
-returns-then-count-wanted c =
+pub returns-then-given-wanted : goal.returns-then-given-wanted
+returns-then-given-wanted c =
     λ n t l w g. let b = become t l (sym (c.all_convert.ensures l t _ g.row (array_elem w))
     ∙ c.if-not-all_convert.false) in
-    builds_no _ _ (array_miscount t l b (c.join-wanted.ensures ∙ array_count w) g.count c.if-count-wanted.true)
+    builds_no _ _ (array_miscount t l b (c.join-wanted.ensures ∙ array_count w) g.count c.if-given-wanted.true)
 
 pub write_array-requires : goal.write_array-requires
 write_array-requires c =
-    let b = become _ _ (sym (c.all_convert.ensures _ _ _ c.requires.given.row (array_elem c.requires.whole))
+    let b = become _ _ (sym (c.all_convert.ensures _ _ _ c.args.args.given.given.row (array_elem c.requires.whole))
     ∙ c.if-not-all_convert.false) in
     record {
       type = _;
       end = _;
       values = _;
       intos = b.intos;
-      elements = record { given = c.requires.given; least = c.requires.least; stands = array_elem c.requires.whole; goes = b.goes };
+      elements = record { given = c.args.args.given.given; least = c.requires.least; stands = array_elem c.requires.whole; goes = b.goes };
     }
 
 pub returns : goal.returns
 returns c =
     λ n t l w g. let b = become t l (sym (c.all_convert.ensures l t _ g.row
     (array_elem w)) ∙ (search)) in
-    let k = c.if-count-wanted.false ∙ (c.join-wanted.ensures ∙ array_count w) in
+    let k = c.if-given-wanted.false ∙ (c.join-wanted.ensures ∙ array_count w) in
     builds_as _ (array_ok t l b (sym g.count ∙ k))
     (c.write_array.ensures t _ l b.intos
     record {

@@ -6,20 +6,20 @@ use Rattle.array.proofs.member_fits.Goals as goal
 pub end_of_type-q-requires : goal.end_of_type-q-requires
 end_of_type-q-requires c = search pair_type
 
-pub slice_bounds-arg_converts-count : goal.slice_bounds-arg_converts-count
-slice_bounds-arg_converts-count c = omega (arith, (pair_stands c.requires.pairs c.end_of_type-q.ensures).size)
+pub slice_bounds-member-count : goal.slice_bounds-member-count
+slice_bounds-member-count c = omega (arith, (pair_stands c.requires.pairs c.end_of_type-q.ensures).size)
 
-pub slice_bounds-arg_converts-start : goal.slice_bounds-arg_converts-start
-slice_bounds-arg_converts-start c = omega (arith, (pair_stands c.requires.pairs c.end_of_type-q.ensures).size)
+pub slice_bounds-member-start : goal.slice_bounds-member-start
+slice_bounds-member-start c = omega (arith, (pair_stands c.requires.pairs c.end_of_type-q.ensures).size)
 
-pub slice_bounds-arg_converts-end : goal.slice_bounds-arg_converts-end
-slice_bounds-arg_converts-end c = (pair_stands c.requires.pairs c.end_of_type-q.ensures).within
+pub slice_bounds-member-end : goal.slice_bounds-member-end
+slice_bounds-member-end c = (pair_stands c.requires.pairs c.end_of_type-q.ensures).within
 
-pub arg_converts-requires-clause-some_arg : goal.arg_converts-requires-clause-some_arg
-arg_converts-requires-clause-some_arg c = pair_arg c.requires.pairs
+pub arg_converts-requires : goal.arg_converts-requires
+arg_converts-requires c = pair_arg c.requires.pairs
 
-pub arg_converts-requires-clause-one_type : goal.arg_converts-requires-clause-one_type
-arg_converts-requires-clause-one_type c = record { type = _; stands = pair_part c.requires.pairs c.end_of_type-q.ensures }
+pub invariant_of-member : goal.invariant_of-member
+invariant_of-member c = record { one = record { type = _; stands = pair_part c.requires.pairs c.end_of_type-q.ensures } }
 
 pub returns-then-not-arg_converts : goal.returns-then-not-arg_converts
 returns-then-not-arg_converts c =

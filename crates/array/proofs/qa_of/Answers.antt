@@ -9,46 +9,46 @@ use Rattle.array.proofs.qa_of.Goals as goal
 
 pub all_fit-requires : goal.all_fit-requires
 all_fit-requires c =
-    let f = common_of _ c.common_type_of.result c.common_type_of.new.ty (c.common_type_of.ensures c.requires.1.values (search)) (present _ _ c.ok_or.ensures.value c.in_ok-ok_or.was) in
-    record { values = _; row = search; type = f.type; end = _; stands = f.stands; converts = common_to c.requires.1.values f.type f.is }
+    let f = common_of _ _ (c.common_type_of.ensures c.args.args.given.values (search)) (present _ _ c.ok_or.ensures.value c.in_ok-ty.was) in
+    record { values = _; row = search; type = f.type; end = _; stands = f.whole; converts = common_to c.args.args.given.values f.type f.is }
 
 pub returns-then-not-all_fit : goal.returns-then-not-all_fit
 returns-then-not-all_fit c =
-    λ l g. let f = common_of _ c.common_type_of.result c.common_type_of.new.ty (c.common_type_of.ensures l g.row) (present _ _ c.ok_or.ensures.value c.in_ok-ok_or.was) in
-    builds_no _ _ (qa_ten l f.is (sym (c.all_fit.ensures l f.type _ g.row f.stands)
+    λ l g. let f = common_of _ _ (c.common_type_of.ensures l g.row) (present _ _ c.ok_or.ensures.value c.in_ok-ty.was) in
+    builds_no _ _ (qa_ten l f.is (sym (c.all_fit.ensures l f.type _ g.row f.whole)
     ∙ c.if-not-all_fit.true))
 
 pub write_array-requires : goal.write_array-requires
 write_array-requires c =
-    let f = common_of _ c.common_type_of.result c.common_type_of.new.ty (c.common_type_of.ensures c.requires.1.values c.requires.1.given.row)
-    (present _ _ c.ok_or.ensures.value c.in_ok-ok_or.was) in
-    let b = become f.type c.requires.1.values (sym (c.all_fit.ensures _ f.type _ c.requires.1.given.row f.stands)
+    let f = common_of _ _ (c.common_type_of.ensures c.args.args.given.values c.args.args.given.given.row)
+    (present _ _ c.ok_or.ensures.value c.in_ok-ty.was) in
+    let b = become f.type c.args.args.given.values (sym (c.all_fit.ensures _ f.type _ c.args.args.given.given.row f.whole)
     ∙ c.if-not-all_fit.false) in
     record {
       type = _;
       end = _;
       values = _;
       intos = b.intos;
-      elements = record { given = c.requires.1.given; least = c.requires.0; stands = f.stands; goes = b.goes };
+      elements = record { given = c.args.args.given.given; least = c.requires; stands = f.whole; goes = b.goes };
     }
 
 pub returns : goal.returns
 returns c =
-    λ l g. let f = common_of _ c.common_type_of.result c.common_type_of.new.ty (c.common_type_of.ensures l g.row)
-    (present _ _ c.ok_or.ensures.value c.in_ok-ok_or.was) in
+    λ l g. let f = common_of _ _ (c.common_type_of.ensures l g.row)
+    (present _ _ c.ok_or.ensures.value c.in_ok-ty.was) in
     let b = become f.type l (sym (c.all_fit.ensures l f.type _ g.row
-    f.stands) ∙ c.if-not-all_fit.false) in
+    f.whole) ∙ c.if-not-all_fit.false) in
     builds_as _ (qa_ok l f.is b) (c.write_array.ensures f.type _ l b.intos
     record {
       given = g;
       least =
-          c.requires.0;
-      stands = f.stands;
+          c.requires;
+      stands = f.whole;
       goes = b.goes;
     })
 
-pub returns-in_err-ok_or : goal.returns-in_err-ok_or
-returns-in_err-ok_or c =
-    let m = missing _ _ c.ok_or.ensures.value c.in_err-ok_or.was in
+pub returns-in_err-ty : goal.returns-in_err-ty
+returns-in_err-ty c =
+    let m = missing _ _ c.ok_or.ensures.value c.in_err-ty.was in
     rw (passed_on c.from_residual.result c.from_residual.ensures.1, m.1)
-    (λ l g. builds_no _ _ (qa_none l (common_none _ c.common_type_of.result c.common_type_of.new.ty (c.common_type_of.ensures l g.row) m.0)))
+    (λ l g. builds_no _ _ (qa_none l (common_none _ _ (c.common_type_of.ensures l g.row) m.0)))

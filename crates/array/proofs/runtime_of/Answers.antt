@@ -11,14 +11,14 @@ returns-then-not-all_convert c =
 
 pub write_array-requires : goal.write_array-requires
 write_array-requires c =
-    let b = become _ _ (sym (c.all_convert.ensures _ _ _ c.requires.given.row c.requires.whole)
+    let b = become _ _ (sym (c.all_convert.ensures _ _ _ c.args.args.given.given.row c.requires.whole)
     ∙ c.if-not-all_convert.false) in
     record {
       type = _;
       end = _;
       values = _;
       intos = b.intos;
-      elements = record { given = c.requires.given; least = c.requires.least; stands = c.requires.whole; goes = b.goes };
+      elements = record { given = c.args.args.given.given; least = c.requires.least; stands = c.requires.whole; goes = b.goes };
     }
 
 pub returns : goal.returns

@@ -12,8 +12,8 @@ use Rattle.array.proofs.write_members.Given as goal
 
 abbrev pub invariant-loop-from : goal.invariant-loop-from
 invariant-loop-from v =
-    (m : Tys) (l ws : List Val) → Pairs v.target 6 v.args 0 m l
-    → memberwise (tys_list m) l ≡ some ws → PutLeft v.target v.at v.args v.from v.initial.out v.to ws v.p v.out
+    (v.w.out.ghost_name ≡ v.initial.w.out.ghost_name) × ((m : Tys) (l ws : List Val) → Pairs v.target 6 v.args 0 m l
+    → memberwise (tys_list m) l ≡ some ws → PutLeft v.target v.at v.args v.from v.initial.w.out.now v.initial.w.at ws v.w.at v.w.out.now)
 
 abbrev pub decreases-loop-from : goal.decreases-loop-from
 decreases-loop-from l = length l.args - l.from

@@ -1,5 +1,7 @@
 -- The length that the type says decides; then the mark, what the type says of the struct, and the members.
 use native.Mathlib.Omega.{arith}
+use Rattle.std.proofs.Common.{rules}
+use Rattle.record.proofs.Puts.{put_length, put_left}
 use Rattle.array.proofs.Structs.{struct_stands, struct_room, struct_front_long, struct_pairs, made_no, made_room, made_yes}
 use Rattle.array.proofs.write_struct.Goals as goal
 
@@ -11,8 +13,8 @@ returns-then-not-takes c =
     λ i m l ws x. made_no x _ (c.takes.ensures _ _ (c.value_len.ensures _ _ x.struct.whole))
     (c.if-not-takes.true)
 
-pub put_mark-p-requires : goal.put_mark-p-requires
-put_mark-p-requires c =
+pub put_mark-requires : goal.put_mark-requires
+put_mark-requires c =
     omega (
       arith,
       made_room c.requires.made c.args.out.now
@@ -23,13 +25,13 @@ put_mark-p-requires c =
 pub slice_bounds-put_bytes-end : goal.slice_bounds-put_bytes-end
 slice_bounds-put_bytes-end c = omega (arith, struct_room c.requires.made.struct.whole)
 
-pub put_bytes-q-requires : goal.put_bytes-q-requires
-put_bytes-q-requires c =
+pub put_bytes-requires : goal.put_bytes-requires
+put_bytes-requires c =
     let h = made_room c.requires.made c.args.out.now
     (c.takes.ensures _ _
     (c.value_len.ensures _ _ c.requires.made.struct.whole))
     (c.if-not-takes.false) in
-    omega (arith, h, struct_room c.requires.made.struct.whole, c.put_mark-p.ensures.end, c.put_mark-p.auto.out)
+    omega (arith, h, struct_room c.requires.made.struct.whole, c.put_mark.ensures.put.end, put_length c.put_mark.ensures.put)
 
 pub write_members-requires : goal.write_members-requires
 write_members-requires c =
@@ -46,11 +48,11 @@ write_members-requires c =
       room = omega (
         arith,
         h,
-        c.put_mark-p.ensures.end,
-        c.put_bytes-q.ensures.end,
+        c.put_mark.ensures.put.end,
+        c.put_bytes.ensures.put.end,
         struct_front_long c.requires.made.struct.whole,
-        c.put_mark-p.auto.out,
-        c.put_bytes-q.auto.out,
+        put_length c.put_mark.ensures.put,
+        put_length c.put_bytes.ensures.put,
       );
     }
 
@@ -61,5 +63,5 @@ returns c =
     (c.takes.ensures _ _
     (c.value_len.ensures
     _ _ x.struct.whole)) ((search)))
-    c.put_mark-p.ensures (search)
-    (c.write_members.ensures m l ws (struct_pairs x.struct.whole x.struct.row x.count) x.goes)
+    c.put_mark.ensures.put c.put_bytes.ensures.put
+    (put_left (c.write_members.ensures.put m l ws (struct_pairs x.struct.whole x.struct.row x.count) x.goes) (search rules))

@@ -7,24 +7,12 @@ use Rattle.error.proofs.BufferAtExit.{builds_no, builds_as}
 use Rattle.builtin.proofs.Counts.{builds_none, runtime_build}
 use Rattle.builtin.proofs.runtime_given.Goals as goal
 
-pub returns-then-count-eq0 : goal.returns-then-count-eq0
+pub returns-then-args-eq0 : goal.returns-then-args-eq0
 unfolding build
-returns-then-count-eq0 c = λ s t w l g. builds_none (build s (Tr t)) l g c.if-count-eq0.true (builds_no _ _ refl)
-
-pub runtime_of-requires : goal.runtime_of-requires
-unfolding build
-runtime_of-requires c =
-    record {
-      type = c.requires.0.type;
-      values = c.requires.1.values;
-      whole = c.requires.0.stands;
-      given = c.requires.1.given;
-      least = omega
-          (arith, c.if-count-eq0.false);
-    }
+returns-then-args-eq0 c = λ s t w l g. builds_none (build s (Tr t)) l g c.if-args-eq0.true (builds_no _ _ refl)
 
 pub returns : goal.returns
 unfolding build
 returns c =
-    λ s t w l g. builds_as _ (runtime_build s t l g.count (omega (arith, c.if-count-eq0.false)))
+    λ s t w l g. builds_as _ (runtime_build s t l g.count (omega (arith, c.if-args-eq0.false)))
     (c.runtime_of.ensures t l w g)

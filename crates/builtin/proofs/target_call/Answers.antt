@@ -14,12 +14,13 @@ returns-in_default-value_args c =
     λ s e. refused _ _ (no_args s _ _ _ (none_read read_vals c.args.target.now c.args.args.now c.read_target.ensures
     c.in-Some.is c.value_args.ensures c.in_default-value_args.is))
 
+pub invariant_of-target_given : goal.invariant_of-target_given
+invariant_of-target_given c =
+    let x = both_read read_vals c.args.target.now c.args.args.now c.read_target.ensures c.in-Some.is c.value_args.ensures c.in-Some-value_args.is in
+    record { given = record { values = x.items; given = read_given _ (λ i. (c.type_inv.args i).fits) x } }
+
 pub target_given-requires : goal.target_given-requires
-target_given-requires c =
-    let x = both_read read_vals c.args.target.now c.args.args.now c.read_target.ensures c.in-Some.is c.value_args.ensures c.in-Some-value_args.is in (
-      meant _ (λ i. (c.type_inv.target i).fits) c.read_target.ensures c.in-Some.is,
-      record { values = x.items; given = read_given _ (λ i. (c.type_inv.args i).fits) x },
-    )
+target_given-requires c = meant _ (λ i. (c.type_inv.target i).fits) c.read_target.ensures c.in-Some.is
 
 pub returns : goal.returns
 returns c =

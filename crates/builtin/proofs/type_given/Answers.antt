@@ -6,63 +6,52 @@ use Rattle.meaning.specs.Build.{build}
 use Rattle.ty.proofs.Heads.{scalar_is, vector_is, matrix_is, array_is, struct_is}
 use Rattle.ty.specs.Stands.{Whole}
 use Rattle.error.proofs.BufferAtExit.{builds_as}
-use Rattle.builtin.proofs.CallAnswers.{vector_side, matrix_sides}
+use Rattle.builtin.proofs.CallAnswers.{vector_side, matrix_float}
 use Rattle.builtin.proofs.Counts.{builds_none, array_build, struct_build}
 use Rattle.builtin.proofs.type_given.Goals as goal
 
-pub returns-then-count-eq0 : goal.returns-then-count-eq0
+pub returns-then-args-eq0 : goal.returns-then-args-eq0
 unfolding build
-returns-then-count-eq0 c =
-    λ s t e w l g. builds_none (build s (Of t)) l g c.if-count-eq0.true
+returns-then-args-eq0 c =
+    λ s t e w l g. builds_none (build s (Of t)) l g c.if-args-eq0.true
     (c.zero_value.ensures t w)
 
-pub scalar_ctor-requires : goal.scalar_ctor-requires
-unfolding build
-scalar_ctor-requires c =
-    let x = scalar_is c.requires.0.stands
-    (sym c.in-Scalar.is ∙ c.head_at.ensures _ _ c.requires.0.stands) in
-    (record { kind = x.kind; no = x.no }, omega (arith, c.if-count-eq0.false), c.requires.1)
+pub invariant_of-scalar_ctor : goal.invariant_of-scalar_ctor
+invariant_of-scalar_ctor c =
+    let x = scalar_is c.args.target.one.stands (sym c.in-Scalar.is ∙ c.head_at.ensures _ _ c.args.target.one.stands) in
+    record { some = record { kind = x.kind; no = x.no } }
+
+pub invariant_of-vec_ctor : goal.invariant_of-vec_ctor
+invariant_of-vec_ctor c =
+    let x = vector_is c.args.target.one.stands (sym c.in-Vector.is ∙ c.head_at.ensures _ _ c.args.target.one.stands) in
+    record { some = record { kind = x.kind; no = x.no } }
 
 pub vec_ctor-requires : goal.vec_ctor-requires
-unfolding build
 vec_ctor-requires c =
-    let x = vector_is c.requires.0.stands
-    (sym c.in-Vector.is ∙ c.head_at.ensures _ _ c.requires.0.stands) in (
-      vector_side c.requires.0.stands x.is,
-      record { kind = x.kind; no = x.no },
-      omega
-          (arith, c.if-count-eq0.false),
-      c.requires.1,
-    )
+    let x = vector_is c.args.target.one.stands (sym c.in-Vector.is ∙ c.head_at.ensures _ _ c.args.target.one.stands) in
+    (vector_side c.args.target.one.stands x.is, omega (arith, c.if-args-eq0.false))
+
+pub invariant_of-mat_ctor : goal.invariant_of-mat_ctor
+invariant_of-mat_ctor c =
+    let x = matrix_is c.args.target.one.stands (sym c.in-Matrix.is ∙ c.head_at.ensures _ _ c.args.target.one.stands) in
+    record { float = matrix_float c.args.target.one.stands x.is x.no }
 
 pub mat_ctor-requires : goal.mat_ctor-requires
-unfolding build
-mat_ctor-requires c =
-    let x = matrix_is c.requires.0.stands (sym c.in-Matrix.is
-    ∙ c.head_at.ensures _ _ c.requires.0.stands) in
-    let y = matrix_sides c.requires.0.stands x.is x.no in
-    (y.0, y.1, y.2, omega (arith, c.if-count-eq0.false), c.requires.1)
+mat_ctor-requires c = omega (arith, c.if-args-eq0.false)
 
 pub array_of-requires : goal.array_of-requires
 unfolding build
 array_of-requires c =
-    let x = array_is c.requires.0.stands (sym c.in-Array.is
-    ∙ c.head_at.ensures _ _ c.requires.0.stands) in
-    record {
-      number = _;
-      type = x.elem;
-      values = c.requires.1.values;
-      whole = subst (Whole _) x.is c.requires.0.stands;
-      given = c.requires.1.given;
-      least = omega (arith, c.if-count-eq0.false);
-    }
+    let x = array_is c.args.target.one.stands (sym c.in-Array.is
+    ∙ c.head_at.ensures _ _ c.args.target.one.stands) in
+    record { number = _; type = x.elem; whole = subst (Whole _) x.is c.args.target.one.stands; least = omega (arith, c.if-args-eq0.false) }
 
 pub struct_of-requires : goal.struct_of-requires
 unfolding build
 struct_of-requires c =
-    let x = struct_is c.requires.0.stands (sym c.in-Struct.is
-    ∙ c.head_at.ensures _ _ c.requires.0.stands) in
-    record { identity = _; types = x.members; values = c.requires.1.values; whole = subst (Whole _) x.is c.requires.0.stands; given = c.requires.1.given }
+    let x = struct_is c.args.target.one.stands (sym c.in-Struct.is
+    ∙ c.head_at.ensures _ _ c.args.target.one.stands) in
+    record { identity = _; types = x.members; whole = subst (Whole _) x.is c.args.target.one.stands }
 
 pub returns-in-Scalar : goal.returns-in-Scalar
 unfolding build

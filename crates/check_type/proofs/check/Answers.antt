@@ -5,11 +5,11 @@ use Rattle.check_type.proofs.check.Goals as goal
 
 pub check_array-requires-clause-ends : goal.check_array-requires-clause-ends
 check_array-requires-clause-ends c =
-    elem_ends c.requires.good_type.is
-    (sym c.in-Array.is ∙ c.head_at.ensures _ _ c.requires.good_type.is.whole)
+    elem_ends c.requires.is
+    (sym c.in-Array.is ∙ c.head_at.ensures _ _ c.requires.is.whole)
 
-pub check_struct-requires-clause-some_struct : goal.check_struct-requires-clause-some_struct
-check_struct-requires-clause-some_struct c = some_struct c.requires.good_type.is (sym c.in-Struct.is ∙ c.head_at.ensures _ _ c.requires.good_type.is.whole)
+pub check_struct-requires : goal.check_struct-requires
+check_struct-requires c = some_struct c.requires.is (sym c.in-Struct.is ∙ c.head_at.ensures _ _ c.requires.is.whole)
 
 pub returns-in-Scalar : goal.returns-in-Scalar
 returns-in-Scalar c =

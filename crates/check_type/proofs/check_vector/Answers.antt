@@ -9,17 +9,17 @@ use Rattle.check_type.proofs.check_vector.Goals as goal
 pub returns-then-is_abstract : goal.returns-then-is_abstract
 returns-then-is_abstract c = λ j l e g. of_refused (Tv _ j) l (vector_abstract j e c.is_abstract.ensures _ c.if-is_abstract.true)
 
-pub returns-then-n-eq0 : goal.returns-then-n-eq0
-returns-then-n-eq0 c = λ j l e g. search (of_none, vector_typeable, given_none)
+pub returns-then-args-eq0 : goal.returns-then-args-eq0
+returns-then-args-eq0 c = λ j l e g. search (of_none, vector_typeable, given_none)
 
-pub check_vector_one-requires : goal.check_vector_one-requires
-check_vector_one-requires c =
-    let x = given_one c.requires.given c.if-n-eq1.true in
-    record { type = _; stands = x.whole }
+pub invariant_of-check_vector_one : goal.invariant_of-check_vector_one
+invariant_of-check_vector_one c =
+    let x = given_one c.args.args.given.given c.if-args-eq1.true in
+    record { one = record { type = _; stands = x.whole } }
 
-pub returns-then-n-eq1 : goal.returns-then-n-eq1
-returns-then-n-eq1 c =
-    λ j l e g. let x = given_one g c.if-n-eq1.true in
+pub returns-then-args-eq1 : goal.returns-then-args-eq1
+returns-then-args-eq1 c =
+    λ j l e g. let x = given_one g c.if-args-eq1.true in
     rules_as (Tv _ j) c.check_vector_one.result (of_one (Tv _ j)
     (vector_typeable j e c.is_abstract.ensures _ c.if-is_abstract.false) x.is
     ∙ vector_one _ j x.type) (c.check_vector_one.ensures j x.type e x.whole)
@@ -28,4 +28,4 @@ pub returns : goal.returns
 returns c =
     λ j l e g. rules_as (Tv _ j) c.check_vector_parts.result (of_more (Tv _ j)
     (vector_typeable j e c.is_abstract.ensures _ c.if-is_abstract.false)
-    (given_more g c.if-n-eq0.false c.if-n-eq1.false) ∙ vector_more _ j l) (c.check_vector_parts.ensures j l e g)
+    (given_more g c.if-args-eq0.false c.if-args-eq1.false) ∙ vector_more _ j l) (c.check_vector_parts.ensures j l e g)

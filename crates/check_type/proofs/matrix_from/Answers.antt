@@ -18,15 +18,15 @@ returns-then-not-goes_down c =
 pub returns-in_err-matrix_shape : goal.returns-in_err-matrix_shape
 returns-in_err-matrix_shape c =
     λ j t e n w. rw (passed_on c.from_residual.result c.from_residual.ensures.1)
-    (down_yes c.args.c c.args.r c.args.n j t
+    (down_yes c.args.size.columns c.args.size.rows c.args.n j t
     (goes_to j t (sym (c.if-not-goes_down.false) ∙ c.goes_down.ensures j t e n w))
-    ∙ refused_then _ _ (subst (ShapeOf t (mat_shape c.args.c c.args.r t c.args.n)) c.in_err-matrix_shape.was
+    ∙ refused_then _ _ (subst (ShapeOf t (mat_shape c.args.size.columns c.args.size.rows t c.args.n)) c.in_err-matrix_shape.was
     (c.matrix_shape.ensures t e w)))
 
 pub returns : goal.returns
 returns c =
-    λ j t e n w. down_yes c.args.c c.args.r c.args.n j t
+    λ j t e n w. down_yes c.args.size.columns c.args.size.rows c.args.n j t
     (goes_to j t (sym (c.if-not-goes_down.false) ∙ c.goes_down.ensures j t e n w))
-    ∙ ap (λ (y : Result (Unit {0})). y >> ok (Tm c.args.c c.args.r j))
-    (subst (ShapeOf t (mat_shape c.args.c c.args.r t c.args.n)) c.in_ok-matrix_shape.was
+    ∙ ap (λ (y : Result (Unit {0})). y >> ok (Tm c.args.size.columns c.args.size.rows j))
+    (subst (ShapeOf t (mat_shape c.args.size.columns c.args.size.rows t c.args.n)) c.in_ok-matrix_shape.was
     (c.matrix_shape.ensures t e w)).0

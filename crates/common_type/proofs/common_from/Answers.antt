@@ -1,48 +1,26 @@
 -- The type so far and what is left come to the whole.
 use mathlib.Core.Path.{refl, ◌∙◌}
 use native.Mathlib.Omega.{arith}
-use Rattle.shape.proofs.Places.{cut_whole}
 use Rattle.args.proofs.ArgumentRows.{args_some, args_first, args_less, args_on, args_end}
-use Rattle.common_type.proofs.SoFar.{part_ends, so_on, so_never, so_end}
+use Rattle.common_type.proofs.SoFar.{so_on, so_never, so_end}
 use Rattle.common_type.proofs.common_from.Goals as goal
 
 pub next_part-part-requires-clause-some_arg : goal.next_part-part-requires-clause-some_arg
-next_part-part-requires-clause-some_arg c = args_some (c.loop-at.invariant.2 _ _ c.requires.rest.row c.requires.so_far.stands) c.loop-at-test.true
-
-pub slice_bounds-meet-count : goal.slice_bounds-meet-count
-slice_bounds-meet-count c =
-    let w = (part_ends (c.loop-at.invariant.2 _ _ c.requires.rest.row c.requires.so_far.stands)
-    c.loop-at-test.true c.next_part-part.ensures).stands in
-    omega (arith, w.size)
-
-pub slice_bounds-meet-start : goal.slice_bounds-meet-start
-slice_bounds-meet-start c =
-    let w = (part_ends (c.loop-at.invariant.2 _ _ c.requires.rest.row c.requires.so_far.stands)
-    c.loop-at-test.true c.next_part-part.ensures).stands in
-    omega (arith, w.size)
-
-pub slice_bounds-meet-end : goal.slice_bounds-meet-end
-slice_bounds-meet-end c =
-    (part_ends (c.loop-at.invariant.2 _ _ c.requires.rest.row c.requires.so_far.stands)
-    c.loop-at-test.true c.next_part-part.ensures).stands.within
+next_part-part-requires-clause-some_arg c = args_some (c.loop-at.invariant.1 _ _ c.requires.rest.row c.requires.so_far.stands) c.loop-at-test.true
 
 pub meet-requires : goal.meet-requires
 meet-requires c =
-    let g = c.loop-at.invariant.2 _ _ c.requires.rest.row c.requires.so_far.stands in
-    let x = (part_ends g (search) c.next_part-part.ensures).stands in
-    let w = cut_whole x (omega arith) in
+    let g = c.loop-at.invariant.1 _ _ c.requires.rest.row c.requires.so_far.stands in
     record {
       so_far = record { type = g.so.type; stands = g.so.stands };
-      another = record { type = _; stands = w };
-      room = omega
-          (arith, w.size, x.size, x.within, c.loop-at.invariant.0, c.loop-at.invariant.1, c.requires.room, c.next_part-part.auto.ty);
+      room = omega (arith, c.next_part-part.ensures.short, c.loop-at.invariant.0, c.requires.room);
     }
 
 pub returns-in_err-end : goal.returns-in_err-end
 returns-in_err-end c =
-    λ l t w v. rw c.from_residual.ensures (args_first (c.loop-at.invariant.2 l t w v)
+    λ l t w v. rw c.from_residual.ensures (args_first (c.loop-at.invariant.1 l t w v)
     (search) λ a k x q.
-    so_never q refl (cut_whole (c.next_part-part.ensures a k x).stands (omega arith))
+    so_never q refl (c.next_part-part.ensures.brings a k x).stands
     c.meet.result c.meet.new.ty c.meet.ensures c.in_err-end.was)
 
 pub loop-at-smaller : goal.loop-at-smaller
@@ -51,19 +29,18 @@ loop-at-smaller c =
       arith,
       c.loop-at-test.true,
       args_less
-          (c.loop-at.invariant.2 _ _
-          c.requires.rest.row c.requires.so_far.stands) c.loop-at-test.true (λ a k x. (c.next_part-part.ensures a k x).next),
+          (c.loop-at.invariant.1 _ _
+          c.requires.rest.row c.requires.so_far.stands) c.loop-at-test.true (λ a k x. (c.next_part-part.ensures.brings a k x).next),
     )
 
 pub loop-at-preserved : goal.loop-at-preserved
 loop-at-preserved c = (
   c.meet.auto.ty ∙ c.loop-at.invariant.0,
-  c.next_part-part.auto.ty ∙ c.loop-at.invariant.1,
   λ l t w v.
-      args_on (c.loop-at.invariant.2 l t w v) (search) (λ a k x. (c.next_part-part.ensures a k x).next) λ a k x q.
-      so_on q refl (cut_whole (c.next_part-part.ensures a k x).stands (omega arith))
+      args_on (c.loop-at.invariant.1 l t w v) (search) (λ a k x. (c.next_part-part.ensures.brings a k x).next) λ a k x q.
+      so_on q refl (c.next_part-part.ensures.brings a k x).stands
       c.meet.result c.meet.new.ty c.meet.ensures c.in_ok-end.was,
 )
 
 pub returns : goal.returns
-returns c = λ l t w v. so_end (args_end (c.loop-at.invariant.2 l t w v) c.loop-at-test.false) refl
+returns c = λ l t w v. so_end (args_end (c.loop-at.invariant.1 l t w v) c.loop-at-test.false) refl

@@ -15,8 +15,7 @@ use Rattle.common_type.proofs.common_from.Given as goal
 
 abbrev pub invariant-loop-at : goal.invariant-loop-at
 invariant-loop-at v =
-    (length v.ty ≡ length v.initial.ty) × (length v.next ≡ 4096) ×
-    ((l : List Val) (t : Ty) → Row v.args v.i l → Stands 15 v.initial.ty 0 t v.q → Left
+    (length v.ty ≡ length v.initial.ty) × ((l : List Val) (t : Ty) → Row v.args v.i l → Stands 15 v.initial.ty 0 t v.q → Left
     (Row v.args) v.at (SoFar (part_types v.flat) v.end v.ty (common_from (some t) (part_types v.flat l))))
 
 abbrev pub decreases-loop-at : goal.decreases-loop-at

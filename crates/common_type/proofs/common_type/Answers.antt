@@ -8,9 +8,10 @@ use lib.ListN.{length}
 use Rattle.meaning.specs.Convert.{common}
 use Rattle.laws.proofs.Left.{Left}
 use Rattle.shape.specs.TypeRows.{TypeRow, SomeTypeRow}
-use Rattle.shape.proofs.Places.{cut_put}
+use Rattle.ty.proofs.FrontOfBuffer.{front_whole}
 use Rattle.shape.proofs.TypeRows.{type_walk, types_standing, types_short, types_ends, types_on}
 use Rattle.common_type.proofs.SoFar.{none_common, first_types}
+use Rattle.common_type.proofs.CommonAnswer.{ends_at, ends_never, front_is, front_ends}
 use Rattle.common_type.proofs.common_type.Goals as goal
 
 given : {s : List ℕ} → SomeTypeRow s 0 → Left (TypeRow s) 0 (λ l. Unit {0})
@@ -22,31 +23,50 @@ returns-then-types-eq0 c = λ l w. ap common ((type_walk _).done w (omega (arith
 pub end_of_type-e-requires : goal.end_of_type-e-requires
 end_of_type-e-requires c = types_standing (given c.requires.some_type_row) (omega (arith, c.if-types-eq0.false))
 
-pub copy-q-requires : goal.copy-q-requires
-copy-q-requires c =
+pub slice_bounds-keep-end : goal.slice_bounds-keep-end
+slice_bounds-keep-end c =
+    let w = (types_ends (given c.requires.some_type_row) (omega (arith, c.if-types-eq0.false)) c.end_of_type-e.ensures).stands in
+    omega (arith, (front_whole w).size, w.size)
+
+pub invariant_of-keep : goal.invariant_of-keep
+invariant_of-keep c =
+    let w = (types_ends (given c.requires.some_type_row) (omega (arith, c.if-types-eq0.false)) c.end_of_type-e.ensures).stands in
+    record { one = record { type = _; stands = front_whole w } }
+
+pub keep-first-requires : goal.keep-first-requires
+keep-first-requires c =
     let h : 0 < length c.args.types.now = omega (arith, c.if-types-eq0.false) in
-    (omega arith, (types_ends (given c.requires.some_type_row) h c.end_of_type-e.ensures).stands.within, omega (arith, types_short (given c.requires.some_type_row) h c.end_of_type-e.ensures, c.requires.ty_len))
+    let w = (types_ends (given c.requires.some_type_row) h c.end_of_type-e.ensures).stands in
+    omega (arith, (front_whole w).size, w.size, types_short (given c.requires.some_type_row) h c.end_of_type-e.ensures, c.requires.ty_len)
 
 pub common_types_from-requires : goal.common_types_from-requires
 common_types_from-requires c =
-    let h : 0 < length c.args.types.now = omega
-    (arith, c.if-types-eq0.false) in
+    let h : 0 < length c.args.types.now = omega (arith, c.if-types-eq0.false) in
     let w = (types_ends (given c.requires.some_type_row) h c.end_of_type-e.ensures).stands in
     let g = types_on (given c.requires.some_type_row) h c.end_of_type-e.ensures λ t l x q. q in
     record {
       rest = record { types = g.items; row = g.row };
-      so_far = record {
-        type = _;
-        stands = cut_put w c.copy-q.ensures
-            (omega (arith, w.size, types_short (given c.requires.some_type_row) h c.end_of_type-e.ensures, c.requires.ty_len));
-      };
-      room = c.copy-q.auto.out ∙ c.requires.ty_len;
+      so_far = record { type = _; stands = c.keep-first.ensures _ (front_whole w) };
+      room = c.keep-first.auto.ty ∙ c.requires.ty_len;
     }
+
+pub returns-in_err-q : goal.returns-in_err-q
+returns-in_err-q c =
+    λ l w. rw c.from_residual.ensures (ends_never _ _ _ (first_types l w (omega (arith, c.if-types-eq0.false)) c.end_of_type-e.ensures c.keep-first.ensures
+    c.common_types_from.result c.common_types_from.new.ty c.common_types_from.ensures) c.in_err-q.was)
+
+pub slice_bounds-result-end : goal.slice_bounds-result-end
+slice_bounds-result-end c =
+    front_ends (ends_at _ _ _ (first_types _ c.requires.some_type_row.row (omega (arith, c.if-types-eq0.false)) c.end_of_type-e.ensures c.keep-first.ensures
+    c.common_types_from.result c.common_types_from.new.ty c.common_types_from.ensures) c.in_ok-q.was)
+
+pub invariant_of-result : goal.invariant_of-result
+invariant_of-result c =
+    let x = ends_at _ _ _ (first_types _ c.requires.some_type_row.row (omega (arith, c.if-types-eq0.false)) c.end_of_type-e.ensures c.keep-first.ensures
+    c.common_types_from.result c.common_types_from.new.ty c.common_types_from.ensures) c.in_ok-q.was in
+    record { one = record { type = _; stands = front_whole x.stands } }
 
 pub returns : goal.returns
 returns c =
-    λ l w. let h : 0 < length
-    c.args.types.now = omega
-    (arith, c.if-types-eq0.false) in
-    first_types l w h c.end_of_type-e.ensures (λ t x. cut_put x c.copy-q.ensures
-    (omega (arith, x.size, types_short (given c.requires.some_type_row) h c.end_of_type-e.ensures, c.requires.ty_len))) c.common_types_from.result c.common_types_from.new.ty c.common_types_from.ensures
+    λ l w. front_is (ends_at _ _ _ (first_types l w (omega (arith, c.if-types-eq0.false)) c.end_of_type-e.ensures c.keep-first.ensures
+    c.common_types_from.result c.common_types_from.new.ty c.common_types_from.ensures) c.in_ok-q.was)

@@ -32,13 +32,18 @@ slice_bounds-meet-end c =
     (types_ends (c.loop-at.invariant.1 _ _ c.requires.rest.row c.requires.so_far.stands) c.loop-at-test.true
     c.end_of_type-e.ensures).stands.within
 
+pub invariant_of-meet : goal.invariant_of-meet
+invariant_of-meet c =
+    let g = c.loop-at.invariant.1 _ _ c.requires.rest.row c.requires.so_far.stands in
+    let w = cut_whole (types_ends g c.loop-at-test.true c.end_of_type-e.ensures).stands (omega arith) in
+    record { one = record { type = _; stands = w } }
+
 pub meet-requires : goal.meet-requires
 meet-requires c =
     let g = c.loop-at.invariant.1 _ _ c.requires.rest.row c.requires.so_far.stands in
     let w = cut_whole (types_ends g c.loop-at-test.true c.end_of_type-e.ensures).stands (omega arith) in
     record {
       so_far = record { type = g.so.type; stands = g.so.stands };
-      another = record { type = _; stands = w };
       room = omega
           (arith, w.size, (types_ends g c.loop-at-test.true c.end_of_type-e.ensures).stands.size, types_short g c.loop-at-test.true c.end_of_type-e.ensures, c.loop-at.invariant.0, c.requires.room);
     }

@@ -1,7 +1,6 @@
 -- The type that the other converts to is kept.
 use mathlib.Core.Path.{sym, ◌∙◌}
 use Rattle.ty.proofs.FrontOfBuffer.{front_whole}
-use Rattle.shape.proofs.Places.{whole_put}
 use Rattle.common_type.proofs.Meets.{meet_next, meet_kept, meet_none}
 use Rattle.common_type.proofs.meet.Goals as goal
 
@@ -10,7 +9,7 @@ returns-then-type_converts c =
     λ t u w v. record {
       type = u;
       is = meet_next t u (sym (c.type_converts.ensures t u (front_whole w) v) ∙ c.if-type_converts.true);
-      stands = whole_put v c.copy.ensures (search);
+      stands = c.keep.ensures u v;
     }
 
 pub returns-then-type_converts-2 : goal.returns-then-type_converts-2

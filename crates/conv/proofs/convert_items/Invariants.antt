@@ -11,8 +11,8 @@ use Rattle.conv.proofs.convert_items.Given as goal
 
 abbrev pub invariant-loop-i : goal.invariant-loop-i
 invariant-loop-i v =
-    (length v.out ≡ length v.initial.out) × ((j : Kind) (l m : List Item) → v.k ≡ kind_no j → ItemsAt v.src v.from v.end l → conv_items j l ≡ some m
-    → Writing (conv_item j) v.src v.end v.initial.out v.to m v.i v.p v.out)
+    (v.own.out.ghost_name ≡ v.initial.own.out.ghost_name) × ((j : Kind) (l m : List Item) → v.k ≡ kind_no j → ItemsAt v.items 0 (length v.items) l → conv_items j l ≡ some m
+    → Writing (conv_item j) v.items (length v.items) v.initial.own.out.now v.initial.own.at m v.i v.own.at v.own.out.now)
 
 abbrev pub decreases-loop-i : goal.decreases-loop-i
-decreases-loop-i l = l.end - l.i
+decreases-loop-i l = length l.items - l.i

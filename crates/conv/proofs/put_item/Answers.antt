@@ -19,25 +19,25 @@ put_bytes-requires c =
     let e = c.item_end-end.ensures c.requires.item c.requires.stands in
     omega (arith, item_within c.requires.stands, c.requires.room, mark_room c.requires.stands c.if-mark-ne115.true c.requires.kind c.requires.goes e)
 
-pub returns-then-mark-ne115 : goal.returns-then-mark-ne115
-returns-then-mark-ne115 c =
+pub returns-then-mark-ne115-clause-put : goal.returns-then-mark-ne115-clause-put
+returns-then-mark-ne115-clause-put c =
     λ j a b n w g. mark_put w c.if-mark-ne115.true j g
-    (c.item_end-end.ensures a w) c.put_bytes.ensures
+    (c.item_end-end.ensures a w) c.put_bytes.ensures.put
 
-pub literal_at-requires : goal.literal_at-requires
-literal_at-requires c = literal_within c.requires.stands c.if-mark-ne115.false
+pub converted_at-requires : goal.converted_at-requires
+converted_at-requires c = literal_within c.requires.stands c.if-mark-ne115.false
 
 pub put_literal-requires : goal.put_literal-requires
 put_literal-requires c =
     literal_room c.requires.stands c.if-mark-ne115.false c.requires.kind c.requires.no
-    c.literal_at.ensures c.requires.goes _ c.in-Some.is c.requires.room
+    c.converted_at.ensures c.requires.goes _ c.in-Some.is c.requires.room
 
-pub returns : goal.returns
-returns c =
-    λ j a b n w g. literal_put w (search) j n (search) g c.in-Some.is
-    c.put_literal.ensures
+pub returns-clause-put : goal.returns-clause-put
+returns-clause-put c =
+    λ j a b n w g. literal_put w (search) j n c.converted_at.ensures g c.in-Some.is
+    c.put_literal.ensures.put
 
-pub returns-in_default : goal.returns-in_default
-returns-in_default c =
-    λ j a b n w g. absurd (literal_never w c.if-mark-ne115.false j n c.literal_at.ensures g
+pub returns-in_default-clause-put : goal.returns-in_default-clause-put
+returns-in_default-clause-put c =
+    λ j a b n w g. absurd (literal_never w c.if-mark-ne115.false j n c.converted_at.ensures g
     c.in_default.is)

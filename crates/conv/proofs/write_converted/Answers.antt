@@ -22,12 +22,12 @@ put_bytes-requires c =
     c.in-None.is c.requires.goes) in
     omega (arith, c.requires.asked.has.bytes.size, c.requires.asked.has.bytes.within, c.requires.room)
 
-pub returns-in-Some : goal.returns-in-Some
+pub returns-in-Some-clause-put : goal.returns-in-Some-clause-put
 unfolding map_some
-returns-in-Some c =
+returns-in-Some-clause-put c =
     λ t v w x g. let y = kind_scan x (search) c.in-Some.is in
-    scan_put y.scan y.no (ap (map_some val_bytes) g) c.convert_items.ensures
+    scan_put y.scan y.no (ap (map_some val_bytes) g) c.convert_items.ensures.put
 
-pub returns-in-None : goal.returns-in-None
+pub returns-in-None-clause-put : goal.returns-in-None-clause-put
 unfolding map_some
-returns-in-None c = λ t v w x g. struct_put x (search) c.in-None.is g c.put_bytes.ensures
+returns-in-None-clause-put c = λ t v w x g. struct_put x (search) c.in-None.is g c.put_bytes.ensures.put

@@ -10,14 +10,8 @@ use Rattle.shape.proofs.Places.{cut_to}
 use Rattle.convert_all.proofs.Converts.{all_fit, none_all}
 use Rattle.convert_all.proofs.all_convert.Goals as goal
 
-pub overflow_add-at : goal.overflow_add-at
-overflow_add-at c = omega (arith, any_front c.requires.asked.to.stands)
-
 pub bounds-t-at : goal.bounds-t-at
 bounds-t-at c = omega (arith, any_front c.requires.asked.to.stands)
-
-pub overflow_add-at-then-t-at-eq115 : goal.overflow_add-at-then-t-at-eq115
-overflow_add-at-then-t-at-eq115 c = omega (arith, any_front c.requires.asked.to.stands)
 
 pub bounds-t-at-then-t-at-eq115 : goal.bounds-t-at-then-t-at-eq115
 bounds-t-at-then-t-at-eq115 c = omega (arith, any_front c.requires.asked.to.stands)
@@ -30,29 +24,14 @@ returns-then-t-at-eq115 c =
     λ l t e w v. let x = scalar_by v c.if-t-at-eq115.true in c.literals_fit.ensures l x.kind x.no w
     ∙ ap (λ (u : Ty). all_fit u l) (sym x.is)
 
-pub slice_bounds-others_convert-count : goal.slice_bounds-others_convert-count
-slice_bounds-others_convert-count c =
-    let f = subst (Told (Ends _ _ _)) c.in-Some.is
-    c.type_end.ensures in omega (arith, f.stands.size)
-
-pub slice_bounds-others_convert-start : goal.slice_bounds-others_convert-start
-slice_bounds-others_convert-start c =
-    let f = subst (Told (Ends _ _ _)) c.in-Some.is
-    c.type_end.ensures in omega (arith, f.stands.size)
-
-pub slice_bounds-others_convert-end : goal.slice_bounds-others_convert-end
-slice_bounds-others_convert-end c =
-    let f = subst (Told (Ends _ _ _)) c.in-Some.is
-    c.type_end.ensures in f.stands.within
-
-pub others_convert-requires-clause-some_row : goal.others_convert-requires-clause-some_row
-others_convert-requires-clause-some_row c =
+pub others_convert-requires : goal.others_convert-requires
+others_convert-requires c =
     c.requires.asked.rest
 
-pub others_convert-requires-clause-one_type : goal.others_convert-requires-clause-one_type
-others_convert-requires-clause-one_type c =
+pub invariant_of-others_convert : goal.invariant_of-others_convert
+invariant_of-others_convert c =
     let f = subst (Told (Ends _ _ _)) c.in-Some.is c.type_end.ensures in
-    record { type = _; stands = cut_to f c.requires.depth_bound f.stands }
+    record { one = record { type = _; stands = cut_to f c.requires.depth_bound f.stands } }
 
 pub returns-then-not-others_convert : goal.returns-then-not-others_convert
 returns-then-not-others_convert c =

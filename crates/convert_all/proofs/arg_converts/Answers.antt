@@ -4,13 +4,13 @@ use Rattle.meaning.specs.Trees.{type_of}
 use Rattle.convert_all.proofs.arg_converts.Goals as goal
 
 pub head_at-requires : goal.head_at-requires
-head_at-requires c = record { type = _; end = _; stands = c.requires.one_type.stands }
+head_at-requires c = record { type = _; end = _; stands = c.args.ty.one.stands }
 
 pub head_at-requires-in-Vector : goal.head_at-requires-in-Vector
-head_at-requires-in-Vector c = record { type = _; end = _; stands = c.requires.one_type.stands }
+head_at-requires-in-Vector c = record { type = _; end = _; stands = c.args.ty.one.stands }
 
 pub head_at-requires-in-Matrix : goal.head_at-requires-in-Matrix
-head_at-requires-in-Matrix c = record { type = _; end = _; stands = c.requires.one_type.stands }
+head_at-requires-in-Matrix c = record { type = _; end = _; stands = c.args.ty.one.stands }
 
 pub returns-in-Scalar : goal.returns-in-Scalar
 returns-in-Scalar c =

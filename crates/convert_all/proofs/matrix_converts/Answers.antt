@@ -6,16 +6,16 @@ use Rattle.convert_all.proofs.matrix_converts.Goals as goal
 pub returns-in_default : goal.returns-in_default
 returns-in_default c = λ t u h l. unlike (matrices _ _) _ t u h l refl (c.in_default.not-Matrix _ _)
 
-pub returns-then-a-c : goal.returns-then-a-c
-returns-then-a-c c = λ t u h l. unlike (matrices _ _) _ t u h l c.in-Matrix.is (λ k e. c.if-a-c.true (cc))
+pub returns-then-c-size : goal.returns-then-c-size
+returns-then-c-size c = λ t u h l. unlike (matrices _ _) _ t u h l c.in-Matrix.is (λ k e. c.if-c-size.true (cc))
 
-pub returns-then-b-r : goal.returns-then-b-r
-returns-then-b-r c = λ t u h l. unlike (matrices _ _) _ t u h l c.in-Matrix.is (λ k e. c.if-b-r.true (cc))
+pub returns-then-r-size : goal.returns-then-r-size
+returns-then-r-size c = λ t u h l. unlike (matrices _ _) _ t u h l c.in-Matrix.is (λ k e. c.if-r-size.true (cc))
 
 pub returns : goal.returns
 returns c =
     λ t u h l. like (matrices _ _) _ t u h _ (cc (
-      c.if-b-r.false,
-      c.if-a-c.false,
+      c.if-r-size.false,
+      c.if-c-size.false,
       c.in-Matrix.is,
     )) c.kind_converts.ensures

@@ -8,11 +8,8 @@ use Rattle.convert_all.proofs.others_convert.Goals as goal
 pub loop-i-init : goal.loop-i-init
 loop-i-init c = λ l w. record { items = l; row = w; so = λ t p. refl }
 
-pub arg_converts-requires-clause-some_arg : goal.arg_converts-requires-clause-some_arg
-arg_converts-requires-clause-some_arg c = args_some (c.loop-i.invariant _ c.requires.some_row.row) c.loop-i-test.true
-
-pub arg_converts-requires-clause-one_type : goal.arg_converts-requires-clause-one_type
-arg_converts-requires-clause-one_type c = c.requires.one_type
+pub arg_converts-requires : goal.arg_converts-requires
+arg_converts-requires c = args_some (c.loop-i.invariant _ c.requires.row) c.loop-i-test.true
 
 pub returns-then-not-arg_converts : goal.returns-then-not-arg_converts
 returns-then-not-arg_converts c =
@@ -21,7 +18,7 @@ returns-then-not-arg_converts c =
 
 pub next_arg-i-requires : goal.next_arg-i-requires
 next_arg-i-requires c =
-    args_some (c.loop-i.invariant _ c.requires.some_row.row)
+    args_some (c.loop-i.invariant _ c.requires.row)
     c.loop-i-test.true
 
 pub loop-i-smaller : goal.loop-i-smaller
@@ -30,7 +27,7 @@ loop-i-smaller c =
       arith,
       c.loop-i-test.true,
       args_less
-          (c.loop-i.invariant _ c.requires.some_row.row)
+          (c.loop-i.invariant _ c.requires.row)
           c.loop-i-test.true c.next_arg-i.ensures,
     )
 

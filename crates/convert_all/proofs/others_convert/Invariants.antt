@@ -11,7 +11,7 @@ use Rattle.convert_all.proofs.Converts.{TestLeft}
 use Rattle.convert_all.proofs.others_convert.Given as goal
 
 abbrev pub invariant-loop-i : goal.invariant-loop-i
-invariant-loop-i v = (l : List Val) → Row v.args v.from l → Left (Row v.args) v.i (TestLeft all_to (Whole v.ty) l)
+invariant-loop-i v = (l : List Val) → Row v.args v.from l → Left (Row v.args) v.i (TestLeft all_to (Whole v.ty.bytes.now) l)
 
 abbrev pub decreases-loop-i : goal.decreases-loop-i
 decreases-loop-i l = length l.args - l.i

@@ -27,14 +27,14 @@ put_bytes-requires c =
     c.in-None.is c.requires.goes) in
     omega (arith, b.size, b.within, c.requires.room)
 
-pub returns-in-Some : goal.returns-in-Some
+pub returns-in-Some-clause-put : goal.returns-in-Some-clause-put
 unfolding map_some
-returns-in-Some c =
+returns-in-Some-clause-put c =
     λ l t e ws w v g. let y = row_scan w v (some_to t l g) (search) c.in-Some.is in
-    scan_put y.scan y.no (ap (map_some (joined val_bytes)) g) c.convert_items.ensures
+    scan_put y.scan y.no (ap (map_some (joined val_bytes)) g) c.convert_items.ensures.put
 
-pub returns-in-None : goal.returns-in-None
+pub returns-in-None-clause-put : goal.returns-in-None-clause-put
 unfolding map_some
-returns-in-None c =
+returns-in-None-clause-put c =
     λ l t e ws w v g. row_put w v (some_to t l g) (search) c.in-None.is g
-    c.put_bytes.ensures
+    c.put_bytes.ensures.put

@@ -1,20 +1,26 @@
 -- What `read_target` says is what `read_target` gives, and the answer follows from it.
-use mathlib.Core.Path.{◌≡◌, refl, subst}
-use Rattle.meaning.specs.Trees as trees
-use Rattle.meaning.specs.Answers.{no}
+use mathlib.Core.Path.{◌≡◌, refl, sym, subst, ◌∙◌}
+use mathlib.Core.Bool.{true, false}
 use Rattle.meaning.specs.Entries.{type_target}
-use Rattle.ty.specs.Targets.{Meant}
-use Rattle.ty.proofs.Targets.{meant, shape_only, bad_target}
+use Rattle.ty.specs.Targets.{Meant, TypeIs}
+use Rattle.ty.proofs.Targets.{meant, bad_target}
+use Rattle.args.specs.OneValue.{Found}
 use Rattle.error.proofs.Refusals.{passed_on, missing, present}
 use Rattle.error.proofs.BufferAtExit.{refused}
 use Rattle.error.proofs.Told.{told_as}
-use Rattle.convert_to.proofs.ConversionAnswers.{of_answer, tr_answer, no_answer}
+use Rattle.convert_to.proofs.ConversionAnswers.{shape_read, no_shape_read, type_only, read_answer, no_answer}
+use Rattle.convert_to.proofs.OneValue.{none_read}
+use Rattle.convert_to.proofs.ToType.{found_asked, type_read}
+use Rattle.convert_to.proofs.Runtimes.{found_runtime, runtime_read}
 use Rattle.convert_to.proofs.convert_to.Goals as goal
-use Rattle.convert_to.proofs.convert_to.Goals.{In_ok-found}
+use Rattle.convert_to.proofs.convert_to.Goals.{In_ok-found, In_ok-ty}
 
 found : (c : In_ok-found) → Meant c.args.target.now c.in_ok-found.found
 found c =
     meant _ (λ i. (c.type_inv.target i).fits) c.read_target.ensures (present _ _ c.ok_or.ensures.value c.in_ok-found.was)
+
+one : (c : In_ok-ty) → Found c.args.args.now c.in_ok-ty.ty.bytes.now
+one c = rw (present _ _ c.ok_or-2.ensures.value c.in_ok-ty.was) at c.one_value.ensures
 
 pub returns-in_err-found : goal.returns-in_err-found
 returns-in_err-found c =
@@ -22,29 +28,46 @@ returns-in_err-found c =
     rw (passed_on c.from_residual.result c.from_residual.ensures.1, m.1)
     (refused _ _ (no_answer _ _ _ (bad_target _ c.read_target.ensures m.0) refl))
 
-pub convert_to_type-requires : goal.convert_to_type-requires
-convert_to_type-requires c =
-    let m = subst (Meant _) c.in-Type.is (found (goal.at.convert_to_type-requires c).In_ok-found) in
-    record { type = m.type; stands = m.stands }
+pub returns-then-is_shape : goal.returns-then-is_shape
+returns-then-is_shape c =
+    let x = shape_read _ _ (sym c.is_shape.ensures ∙ c.if-is_shape.true) (found (goal.at.returns-then-is_shape c).In_ok-found) in
+    refused _ _ (no_answer _ _ _ x.1 x.2)
 
-pub convert_to_runtime-requires : goal.convert_to_runtime-requires
-convert_to_runtime-requires c =
-    subst (Meant _) c.in-Runtime.is (found (goal.at.convert_to_runtime-requires c).In_ok-found)
+pub returns-in_err-ty : goal.returns-in_err-ty
+returns-in_err-ty c =
+    let m = missing _ _ c.ok_or-2.ensures.value c.in_err-ty.was in
+    let x = no_shape_read _ _ (sym c.is_shape.ensures ∙ c.if-is_shape.false) (found (goal.at.returns-in_err-ty c).In_ok-found) in
+    rw (passed_on c.from_residual-in_err-ty.result c.from_residual-in_err-ty.ensures.1, m.1)
+    (refused _ _ (read_answer _ _ _ x.1 x.2 ∙ none_read x.0 _ (λ i. (c.type_inv.args i).fits) (rw m.0 at c.one_value.ensures)))
 
-pub returns-in-Type : goal.returns-in-Type
-returns-in-Type c =
-    let m = subst (Meant _) c.in-Type.is (found (goal.at.returns-in-Type c).In_ok-found) in
-    told_as (of_answer _ _ _ m.reads) (c.convert_to_type.ensures m.type m.stands)
+pub convert_array-requires : goal.convert_array-requires
+convert_array-requires c = (
+  subst (Meant _) c.in-Runtime.is (found (goal.at.convert_array-requires c).In_ok-found),
+  one (goal.at.convert_array-requires c).In_ok-ty,
+)
 
 pub returns-in-Runtime : goal.returns-in-Runtime
+unfolding type_target
 returns-in-Runtime c =
     let m = subst (Meant _) c.in-Runtime.is (found (goal.at.returns-in-Runtime c).In_ok-found) in
-    told_as (tr_answer _ _ _ m.reads) (c.convert_to_runtime.ensures m.type m.stands m.good)
+    let f = one (goal.at.returns-in-Runtime c).In_ok-ty in
+    told_as (read_answer _ _ _ m.reads refl ∙ runtime_read m.type _ f.one)
+    (c.convert_array.ensures m.type f.value (found_runtime m f))
 
-pub returns-in_default : goal.returns-in_default
+pub invariant_of-to : goal.invariant_of-to
+invariant_of-to c =
+    let m = type_only _ (sym c.is_shape.ensures ∙ c.if-is_shape.false) c.in_default.not-Runtime
+    (found (goal.at.invariant_of-to c).In_ok-found) in
+    record { one = record { type = m.type; stands = m.stands } }
+
+pub convert_value-requires : goal.convert_value-requires
+convert_value-requires c = one (goal.at.convert_value-requires c).In_ok-ty
+
+pub returns : goal.returns
 unfolding type_target
-returns-in_default c =
-    let x = shape_only _ c.in_default.not-Type c.in_default.not-Runtime
-    (found (goal.at.returns-in_default c).In_ok-found)
-    (λ (g : trees.Target). type_target g ≡ no 1) refl (λ n. refl) (λ a b. refl) in
-    refused _ _ (no_answer _ _ _ x.1 x.2)
+returns c =
+    let m = type_only _ (sym c.is_shape.ensures ∙ c.if-is_shape.false) c.in_default.not-Runtime
+    (found (goal.at.returns c).In_ok-found) in
+    let f = one (goal.at.returns c).In_ok-ty in
+    told_as (read_answer _ _ _ m.reads refl ∙ type_read m.type _ f.one)
+    (c.convert_value.ensures m.type f.value (found_asked record { type = m.type; stands = m.stands } f))

@@ -6,11 +6,12 @@ use Rattle.meaning.specs.Convert.{converts}
 use Rattle.error.proofs.BufferAtExit.{refused}
 use Rattle.error.proofs.Told.{told_as}
 use Rattle.convert_to.specs.Conversions.{Asked}
-use Rattle.convert_to.proofs.ToType.{asked_to, type_no, value_no, value_goes, value_yes}
+use Rattle.convert_to.proofs.ToType.{found_asked, asked_to, type_no, value_no, value_goes, value_yes}
 use Rattle.convert_to.proofs.convert_value.Goals as goal
 use Rattle.convert_to.proofs.convert_value.Goals.{Else-not-type_converts}
 
-type_yes : (c : Else-not-type_converts) {t : Ty} {v : Val} → Asked c.args.target.now c.args.args.now c.args.ty.now t v
+type_yes : (c : Else-not-type_converts) {t : Ty} {v : Val}
+    → Asked c.args.target.bytes.now c.args.args.now c.args.ty.bytes.now t v
     → T (converts (type_of v) t)
 type_yes c x = subst T (sym c.if-not-type_converts.false ∙ c.type_converts.ensures _ _ x.type x.whole) tt
 
@@ -20,7 +21,7 @@ returns-then-not-type_converts c =
 
 pub value_fits-requires : goal.value_fits-requires
 value_fits-requires c =
-    let x = c.requires.asked in
+    let x = found_asked c.args.target.one c.requires in
     record { type = _; value = _; to = asked_to x (type_yes (goal.at.value_fits-requires c).Else-not-type_converts x) }
 
 pub returns-then-not-value_fits : goal.returns-then-not-value_fits
@@ -30,7 +31,7 @@ returns-then-not-value_fits c =
 
 pub write_value-requires : goal.write_value-requires
 write_value-requires c =
-    let x = c.requires.asked in
+    let x = found_asked c.args.target.one c.requires in
     let h = type_yes (goal.at.write_value-requires c).Else-not-type_converts x in
     let g = value_goes x h (sym c.if-not-value_fits.false ∙ c.value_fits.ensures _ _ (asked_to x h)) in
     record { to = _; from = _; into = g.into; becomes = g.becomes }

@@ -1,9 +1,11 @@
 -- The length that the type says decides.
 use mathlib.Core.Path.{◌≡◌, sym, ◌∙◌}
+use Rattle.std.proofs.Common.{rules}
 use native.Mathlib.Omega.{arith}
 use lib.ListN.{length}
 use Rattle.meaning.specs.Trees.{Ty, Val, val_len}
 use Rattle.meaning.specs.Records.{val_bytes}
+use Rattle.record.proofs.Puts.{put_left}
 use Rattle.ty.proofs.Lens.{is_len, long_len}
 use Rattle.error.proofs.Refusals.{passed_on, missing, present}
 use Rattle.error.proofs.BufferAtExit.{refused, written}
@@ -12,7 +14,7 @@ use Rattle.convert_to.proofs.ToType.{room_to, room_for, made_long, hand_yes, han
 use Rattle.convert_to.proofs.write_value.Goals as goal
 use Rattle.convert_to.proofs.write_value.Goals.{In_ok-n}
 
-length_is : (c : In_ok-n) {t : Ty} {v w : Val} → Becomes c.args.target.now c.args.args.now t v w
+length_is : (c : In_ok-n) {t : Ty} {v w : Val} → Becomes c.args.target.bytes.now c.args.args.now t v w
     → c.in_ok-n.n ≡ val_len t
 length_is c x =
     (is_len _ _ _ _ (sym (present _ _ c.ok_or.ensures.value c.in_ok-n.was) ∙ c.value_len.ensures _ _ x.whole)).1
@@ -29,13 +31,13 @@ returns-then-n-out c =
     λ t v w x. let n = length_is (goal.at.returns-then-n-out c).In_ok-n x in
     refused _ c.args.out.now (hand_no x (length c.args.out.now) (omega (arith, n, c.if-n-out.true)))
 
-pub write_converted-end-requires : goal.write_converted-end-requires
-write_converted-end-requires c =
-    let n = length_is (goal.at.write_converted-end-requires c).In_ok-n c.requires.becomes in
+pub write_converted-requires : goal.write_converted-requires
+write_converted-requires c =
+    let n = length_is (goal.at.write_converted-requires c).In_ok-n c.requires.becomes in
     room_for c.requires.becomes (omega (arith, n, c.if-n-out.false))
 
 pub returns : goal.returns
 returns c =
     λ t v w x. let n = length_is (goal.at.returns c).In_ok-n x in
     written (val_bytes w) (hand_yes x (length c.args.out.now) (omega (arith, n, c.if-n-out.false)))
-    (omega (arith, made_long x, n, c.if-n-out.false)) (c.write_converted-end.ensures t v w (room_to x) x.goes)
+    (omega (arith, made_long x, n, c.if-n-out.false)) (put_left (c.write_converted.ensures.put t v w (room_to x) x.goes) (search rules))

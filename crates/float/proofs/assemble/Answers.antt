@@ -1,6 +1,6 @@
 -- `float::assemble` meets its contract. Each arm is the case of `bits` for its number.
-use Prim.Native.Nat.{◌*◌, ◌^◌}
 use Rattle.meaning.specs.Floats.{nan, inf, fin}
+use Rattle.float.specs.Taken.{size}
 use Rattle.float.proofs.Fields.{fits, bits_lt, nan_bits_lem, inf_bits, fin_bits}
 use Rattle.float.proofs.assemble.Goals as goal
 
@@ -13,7 +13,7 @@ overflow_add-result-in-Inf g c =
 
 pub overflow_add-result-in-Fin : goal.overflow_add-result-in-Fin
 overflow_add-result-in-Fin g c =
-    let n = c.in-Fin.m * 2 ^ c.in-Fin.e in
+    let n = size c.in-Fin.x in
     record { fits = fits g.F.Format.laws (fin c.in-Fin.s n) (fin_bits _ _ c.in-Fin.s n c.sign-in-Fin.ensures c.pack.ensures) }
 
 pub returns-in-Nan-clause-value : goal.returns-in-Nan-clause-value
@@ -24,9 +24,9 @@ returns-in-Inf-clause-value g c = rw c.in-Inf.is (inf_bits _ _ c.in-Inf.s c.sign
 
 pub returns-in-Fin-clause-value : goal.returns-in-Fin-clause-value
 returns-in-Fin-clause-value g c =
-    rw c.in-Fin.is (fin_bits _ _ c.in-Fin.s (c.in-Fin.m * 2 ^ c.in-Fin.e) c.sign-in-Fin.ensures c.pack.ensures)
+    rw c.in-Fin.is (fin_bits _ _ c.in-Fin.s (size c.in-Fin.x) c.sign-in-Fin.ensures c.pack.ensures)
 
 pub returns-in-Fin-clause-upper_bound : goal.returns-in-Fin-clause-upper_bound
 returns-in-Fin-clause-upper_bound g c =
-    let n = c.in-Fin.m * 2 ^ c.in-Fin.e in
+    let n = size c.in-Fin.x in
     rw (fin_bits _ _ c.in-Fin.s n c.sign-in-Fin.ensures c.pack.ensures) (bits_lt g.F.Format.laws (fin c.in-Fin.s n))

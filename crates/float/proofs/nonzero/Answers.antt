@@ -13,4 +13,4 @@ returns-in-Inf c = rw c.in-Inf.is
 
 pub returns-in-Fin : goal.returns-in-Fin
 unfolding Scalars.nonzero
-returns-in-Fin c = rw c.in-Fin.is (positive c.in-Fin.m c.in-Fin.field-2)
+returns-in-Fin c = rw c.in-Fin.is (positive c.in-Fin.x.significand c.in-Fin.x.exponent)

@@ -1,6 +1,6 @@
 -- `float::rounds_finite` meets its contract. Each arm is the law for its number; the limit is the threshold.
 use mathlib.Core.Path.{◌∙◌}
-use Prim.Native.Nat.{◌*◌, ◌^◌}
+use Rattle.float.specs.Taken.{size}
 use Rattle.float.proofs.Ranges.{nan_not, inf_not, fin_below}
 use Rattle.float.proofs.rounds_finite.Goals as goal
 
@@ -12,5 +12,5 @@ returns-in-Inf g c = rw c.in-Inf.is (inf_not g.F.Format.laws c.requires.0 c.requ
 
 pub returns-in-Fin : goal.returns-in-Fin
 returns-in-Fin g c =
-    rw c.in-Fin.is (rw (c.DIGITS.ensures, c.EMAX.ensures, c.DIGITS-in-Fin.ensures) at c.beyond.ensures
-    ∙ fin_below g.F.Format.laws c.requires.0 c.requires.1 c.in-Fin.field-0 (c.in-Fin.m * 2 ^ c.in-Fin.e))
+    rw c.in-Fin.is (rw c.threshold.ensures at c.beyond.ensures
+    ∙ fin_below g.F.Format.laws c.requires.0 c.requires.1 c.in-Fin.field-0 (size c.in-Fin.x))

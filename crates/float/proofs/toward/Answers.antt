@@ -1,7 +1,8 @@
 -- `float::toward` meets its contract. Each arm is the case of the definition for its number.
 use mathlib.Core.Path.{ap, ◌∙◌}
-use Prim.Native.Nat.{◌*◌, ◌/◌, ◌^◌, min}
+use Prim.Native.Nat.{◌/◌, ◌^◌, min}
 use Rattle.meaning.specs.Scalars as Scalars
+use Rattle.float.specs.Taken.{size}
 use Rattle.float.proofs.toward.Goals as goal
 
 pub returns-in-Nan-clause-value : goal.returns-in-Nan-clause-value
@@ -15,5 +16,5 @@ returns-in-Inf-clause-value c = rw c.in-Inf.is (c.wrap.ensures.value ∙ ap (Sca
 pub returns-in-Fin-clause-value : goal.returns-in-Fin-clause-value
 unfolding Scalars.toward
 returns-in-Fin-clause-value c =
-    let n = c.in-Fin.m * 2 ^ c.in-Fin.e in
-    rw c.in-Fin.is (c.wrap-in-Fin.ensures.value ∙ ap (Scalars.wrap c.in-Fin.s) (c.cut.ensures ∙ ap (min (n / 2 ^ 1074)) c.end-in-Fin.ensures))
+    rw c.in-Fin.is (c.wrap-in-Fin.ensures.value ∙ ap (Scalars.wrap c.in-Fin.s)
+    (c.cut.ensures ∙ ap (min (size c.in-Fin.x / 2 ^ 1074)) c.end-in-Fin.ensures))

@@ -2,10 +2,10 @@
 use Rattle.meaning.specs.Scalars as Scalars
 use Rattle.float.proofs.wrap.Goals as goal
 
-pub returns-then-s-clause-value : goal.returns-then-s-clause-value
+pub returns-then-negative-clause-value : goal.returns-then-negative-clause-value
 unfolding Scalars.wrap
-returns-then-s-clause-value c = rw c.if-s.true
+returns-then-negative-clause-value c = rw c.if-negative.true
 
-pub returns-else-s-clause-value : goal.returns-else-s-clause-value
+pub returns-else-negative-clause-value : goal.returns-else-negative-clause-value
 unfolding Scalars.wrap
-returns-else-s-clause-value c = rw c.if-s.false
+returns-else-negative-clause-value c = rw c.if-negative.false

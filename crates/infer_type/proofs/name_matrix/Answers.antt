@@ -4,16 +4,16 @@ use Rattle.arg_types.proofs.Given.{given_none, given_one, given_more, given_alon
 use Rattle.infer_type.proofs.Shapes.{names_as, qm_none, qm_one_lem, qm_more}
 use Rattle.infer_type.proofs.name_matrix.Goals as goal
 
-pub returns-then-n-eq0 : goal.returns-then-n-eq0
-returns-then-n-eq0 c = λ l g. qm_none c.args.c c.args.r (given_none g c.if-n-eq0.true)
+pub returns-then-args-eq0 : goal.returns-then-args-eq0
+returns-then-args-eq0 c = λ l g. qm_none c.args.size.columns c.args.size.rows (given_none g c.if-args-eq0.true)
 
-pub returns-then-n-eq1 : goal.returns-then-n-eq1
-returns-then-n-eq1 c =
-    λ l g. let x = given_one g c.if-n-eq1.true in
-    names_as (Tm c.args.c c.args.r) c.name_matrix_one.result (qm_one_lem c.args.c c.args.r x.is)
-    (c.name_matrix_one.ensures x.type (given_alone g c.if-n-eq1.true))
+pub returns-then-args-eq1 : goal.returns-then-args-eq1
+returns-then-args-eq1 c =
+    λ l g. let x = given_one g c.if-args-eq1.true in
+    names_as (Tm c.args.size.columns c.args.size.rows) c.name_matrix_one.result (qm_one_lem c.args.size.columns c.args.size.rows x.is)
+    (c.name_matrix_one.ensures x.type (given_alone g c.if-args-eq1.true))
 
 pub returns : goal.returns
 returns c =
-    λ l g. names_as (Tm c.args.c c.args.r) c.name_matrix_parts.result
-    (qm_more c.args.c c.args.r (given_more g c.if-n-eq0.false c.if-n-eq1.false)) (c.name_matrix_parts.ensures l g)
+    λ l g. names_as (Tm c.args.size.columns c.args.size.rows) c.name_matrix_parts.result
+    (qm_more c.args.size.columns c.args.size.rows (given_more g c.if-args-eq0.false c.if-args-eq1.false)) (c.name_matrix_parts.ensures l g)

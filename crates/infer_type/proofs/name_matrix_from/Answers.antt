@@ -15,7 +15,7 @@ pub returns-in_err-k : goal.returns-in_err-k
 returns-in_err-k c =
     λ t e w. let m = missing _ _ c.ok_or.ensures.value c.in_err-k.was in
     rw (passed_on c.from_residual.result c.from_residual.ensures.1, m.1)
-    (float_none c.args.c c.args.r c.args.n t
+    (float_none c.args.size.columns c.args.size.rows c.args.n t
     (found_none (float_kind (inner t)) (sym m.0 ∙ c.float_inner.ensures t e w)))
 
 pub returns-in_err-matrix_shape : goal.returns-in_err-matrix_shape
@@ -24,7 +24,7 @@ returns-in_err-matrix_shape c =
     (sym (present _ _ c.ok_or.ensures.value c.in_ok-k.was) ∙ c.float_inner.ensures t e w) in
     rw (passed_on c.from_residual-in_err-matrix_shape.result c.from_residual-in_err-matrix_shape.ensures.1)
     (float_named _ _ _ t x
-    ∙ refused_then _ _ (subst (ShapeOf t (mat_shape c.args.c c.args.r t c.args.n)) c.in_err-matrix_shape.was
+    ∙ refused_then _ _ (subst (ShapeOf t (mat_shape c.args.size.columns c.args.size.rows t c.args.n)) c.in_err-matrix_shape.was
     (c.matrix_shape.ensures t e w)))
 
 pub returns : goal.returns
@@ -34,7 +34,7 @@ returns c =
       x.kind,
       x.no,
       float_named _ _ _ t x
-          ∙ ap (λ (y : Result (Unit {0})). y >> ok (Tm c.args.c c.args.r x.kind))
-          (subst (ShapeOf t (mat_shape c.args.c c.args.r t c.args.n)) c.in_ok-matrix_shape.was
+          ∙ ap (λ (y : Result (Unit {0})). y >> ok (Tm c.args.size.columns c.args.size.rows x.kind))
+          (subst (ShapeOf t (mat_shape c.args.size.columns c.args.size.rows t c.args.n)) c.in_ok-matrix_shape.was
           (c.matrix_shape.ensures t e w)).0,
     )

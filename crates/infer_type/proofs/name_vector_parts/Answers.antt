@@ -12,7 +12,7 @@ returns-then-not-are_parts c =
 
 pub returns-then-sum-n : goal.returns-then-sum-n
 returns-then-sum-n c =
-    λ l g. let x = kinds_of g.row (given_two g c.requires.several)
+    λ l g. let x = kinds_of g.row (given_two g c.requires)
     (c.are_parts.ensures l g.row)
     (c.if-not-are_parts.false) in
     qv_miscount c.args.n l x.kinds
@@ -21,14 +21,14 @@ returns-then-sum-n c =
 
 pub common_kind-requires : goal.common_kind-requires
 common_kind-requires c =
-    let x = kinds_of c.requires.some_given.given.row (given_two c.requires.some_given.given c.requires.several)
-    (c.are_parts.ensures _ c.requires.some_given.given.row)
+    let x = kinds_of c.args.args.given.given.row (given_two c.args.args.given.given c.requires)
+    (c.are_parts.ensures _ c.args.args.given.given.row)
     (c.if-not-are_parts.false) in
     record { types = _; first = _; others = _; kinds = x.kinds }
 
 pub returns : goal.returns
 returns c =
-    λ l g. let x = kinds_of g.row (given_two g c.requires.several) (c.are_parts.ensures l g.row)
+    λ l g. let x = kinds_of g.row (given_two g c.requires) (c.are_parts.ensures l g.row)
     (c.if-not-are_parts.false) in
     rw c.ok_or.ensures.value
     (qv_named c.args.n l x.kinds (sym (c.total-sum.ensures l g.row) ∙ c.if-sum-n.false)

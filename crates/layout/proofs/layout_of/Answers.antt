@@ -22,10 +22,14 @@ found : (c : In_ok-found) → Meant c.args.target.now c.in_ok-found.found
 found c =
     meant _ (λ i. (c.type_inv.target i).fits) c.read_target.ensures (present _ _ c.ok_or.ensures.value c.in_ok-found.was)
 
+pub invariant_of-layout_of_type : goal.invariant_of-layout_of_type
+invariant_of-layout_of_type c =
+    let m = subst (Meant _) c.in-Type.is (found (goal.at.invariant_of-layout_of_type c).In_ok-found) in
+    record { one = record { type = m.type; stands = m.stands } }
+
 pub layout_of_type-requires : goal.layout_of_type-requires
 layout_of_type-requires c =
-    let m = subst (Meant _) c.in-Type.is (found (goal.at.layout_of_type-requires c).In_ok-found) in
-    (record { type = m.type; stands = m.stands }, type_short _ m)
+    type_short _ (subst (Meant _) c.in-Type.is (found (goal.at.layout_of_type-requires c).In_ok-found))
 
 pub returns-in-Type : goal.returns-in-Type
 returns-in-Type c =

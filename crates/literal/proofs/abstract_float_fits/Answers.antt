@@ -1,12 +1,12 @@
 -- `literal::abstract_float_fits` meets its contract: each kind's test computes, and a number over 6 is none's.
 use mathlib.Core.Path.{ap}
-use mathlib.Core.Option.{none}
-use Rattle.meaning.specs.Kinds.{afloat, kind_no, kind_of, same_kind, kind_rank, from_afloat}
+use Rattle.meaning.specs.Kinds.{kind_no, kind_of, same_kind, kind_rank, from_afloat}
 use Rattle.meaning.specs.Scalars.{number, conv, conv_fits, some?}
 use Rattle.kind.specs.Ends.{of_kind}
 use Rattle.kind.proofs.Numbers.{over}
 use Rattle.literal.specs.LiteralAnswers.{conv_from}
 use Rattle.literal.proofs.Tests.{fits_where}
+use borrow.Author.Rules.{rules}
 use Rattle.literal.proofs.abstract_float_fits.Goals as goal
 
 pub returns-in-0 : goal.returns-in-0
@@ -39,4 +39,4 @@ returns-in-6 c = rw (c.in-6.is, c.unpack-in-6.ensures.means) (fits_where _ _ c.r
 
 pub returns-in_default : goal.returns-in_default
 unfolding of_kind kind_no kind_of same_kind kind_rank from_afloat some? number conv conv_fits conv_from
-returns-in_default c = ap some? (over none (λ k. conv k afloat c.args.bits) c.args.to c.in_default.in_default-own.rest)
+returns-in_default c = ap some? (over _ _ c.args.to (search rules))

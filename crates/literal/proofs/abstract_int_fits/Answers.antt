@@ -1,14 +1,14 @@
 -- `literal::abstract_int_fits` meets its contract: each kind's test computes, and a number over 6 is none's. Where none
 -- is made, every number of 64 bits passes it.
 use mathlib.Core.Path.{ap}
-use mathlib.Core.Option.{none}
 use native.Mathlib.Omega.{arith}
-use Rattle.meaning.specs.Kinds.{aint, kind_no, kind_of, same_kind, kind_rank, from_aint}
+use Rattle.meaning.specs.Kinds.{kind_no, kind_of, same_kind, kind_rank, from_aint}
 use Rattle.meaning.specs.Scalars.{conv, conv_fits, some?}
 use Rattle.kind.specs.Ends.{of_kind, low, high}
 use Rattle.kind.proofs.Numbers.{over}
 use Rattle.literal.specs.LiteralAnswers.{conv_from}
 use Rattle.literal.proofs.Tests.{fits_where, aint_finite}
+use borrow.Author.Rules.{rules}
 use Rattle.literal.proofs.abstract_int_fits.Goals as goal
 
 pub returns-in-0 : goal.returns-in-0
@@ -32,7 +32,7 @@ returns-in-3 c =
       c.in-3.is,
       c.abstract_int_number.ensures,
       c.from-v.ensures.means,
-    ) (fits_where _ _ c.integer_fits.ensures)
+    ) (fits_where _ _ (rw c.range_of.ensures at c.within.ensures))
 
 pub returns-in-4 : goal.returns-in-4
 unfolding of_kind kind_no kind_of same_kind kind_rank from_aint some? low high conv conv_fits conv_from
@@ -41,7 +41,7 @@ returns-in-4 c =
       c.in-4.is,
       c.abstract_int_number.ensures,
       c.from-v.ensures.means,
-    ) (fits_where _ _ c.integer_fits-in-4.ensures)
+    ) (fits_where _ _ (rw c.range_of-in-4.ensures at c.within-in-4.ensures))
 
 pub returns-in-5 : goal.returns-in-5
 unfolding of_kind kind_no kind_of same_kind kind_rank from_aint some? low high conv conv_fits conv_from
@@ -60,4 +60,4 @@ returns-in-6 c =
 
 pub returns-in_default : goal.returns-in_default
 unfolding of_kind kind_no kind_of same_kind kind_rank from_aint some? low high conv conv_fits conv_from
-returns-in_default c = ap some? (over none (λ k. conv k aint c.args.bits) c.args.to c.in_default.in_default-own.rest)
+returns-in_default c = ap some? (over _ _ c.args.to (search rules))

@@ -1,11 +1,11 @@
 -- `literal::convert_abstract_float` meets its contract: each kind's rule computes, and a number over 6 is none's.
 use mathlib.Core.Path.{ap}
-use mathlib.Core.Option.{none}
-use Rattle.meaning.specs.Kinds.{afloat, kind_no, kind_of, same_kind, kind_rank, from_afloat}
+use Rattle.meaning.specs.Kinds.{kind_no, kind_of, same_kind, kind_rank, from_afloat}
 use Rattle.meaning.specs.Scalars.{number, conv, conv_fits, conv_bits, some?}
 use Rattle.kind.specs.Ends.{of_kind}
 use Rattle.kind.proofs.Numbers.{over}
 use Rattle.literal.specs.LiteralAnswers.{converted_of, conv_from}
+use borrow.Author.Rules.{rules}
 use Rattle.literal.proofs.convert_abstract_float.Goals as goal
 
 pub returns-in-0 : goal.returns-in-0
@@ -38,4 +38,4 @@ returns-in-6 c = rw (c.in-6.is, ← c.convert-in-6.ensures.value) c.finite-in-6.
 
 pub returns-in_default : goal.returns-in_default
 unfolding of_kind kind_no kind_of same_kind kind_rank from_afloat some? number conv conv_fits conv_bits converted_of conv_from
-returns-in_default c = ap converted_of (over none (λ k. conv k afloat c.args.bits) c.args.to c.in_default.in_default-own.rest)
+returns-in_default c = ap converted_of (over _ _ c.args.to (search rules))

@@ -3,6 +3,7 @@ use Rattle.meaning.specs.Scalars.{checked}
 use Rattle.meaning.specs.Entries.{stage_of}
 use Rattle.literal.specs.LiteralAnswers.{rules_of, staged_of}
 use Rattle.literal.proofs.Tests.{no_stage}
+use borrow.Author.Rules.{rules}
 use Rattle.literal.proofs.rules_at.Goals as goal
 
 pub returns-in-0 : goal.returns-in-0
@@ -19,4 +20,4 @@ returns-in-2 c = rw c.in-2.is
 
 pub returns-in_default : goal.returns-in_default
 unfolding staged_of rules_of stage_of checked
-returns-in_default c = rw (no_stage c.args.stage c.in_default.in_default-own.rest.0.0.1 c.in_default.in_default-own.rest.0.1 c.in_default.in_default-own.rest.1)
+returns-in_default c = rw (no_stage c.args.stage (search rules) (search rules) (search rules))

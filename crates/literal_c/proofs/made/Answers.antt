@@ -1,5 +1,5 @@
 -- A stage's refusal, the constructor's, or its payload.
-use mathlib.Core.Path.{◌≡◌, refl, sym, ap, ◌∙◌}
+use mathlib.Core.Path.{sym, ap, ◌∙◌}
 use Rattle.error.specs.Refusals as refusals
 use Rattle.error.proofs.Refusals.{passed_on}
 use Rattle.literal.specs.LiteralAnswers.{paper}
@@ -14,8 +14,8 @@ pub returns-in_err-payload : goal.returns-in_err-payload
 unfolding refusals.paper paper
 returns-in_err-payload c =
     rw (passed_on c.from_residual-in_err-payload.result c.from_residual-in_err-payload.ensures.1)
-    (ap paper (sym c.in_err-payload.was) ∙ built _ _ _ _ c.rules_at.ensures _ c.in_ok-rules.was c.construct_literal.ensures)
+    (ap paper (sym c.in_err-payload.was) ∙ built _ _ _ _ c.rules_at.ensures _ c.in_ok-rules.was c.construct.ensures)
 
 pub returns : goal.returns
 unfolding refusals.paper paper
-returns c = ap paper (sym c.in_ok-payload.was) ∙ built _ _ _ _ c.rules_at.ensures _ c.in_ok-rules.was c.construct_literal.ensures
+returns c = ap paper (sym c.in_ok-payload.was) ∙ built _ _ _ _ c.rules_at.ensures _ c.in_ok-rules.was c.construct.ensures

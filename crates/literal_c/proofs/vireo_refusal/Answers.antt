@@ -1,7 +1,7 @@
 -- The number of a refusal, and 0 where there is none.
-use mathlib.Core.Path.{◌≡◌, sym, ap, ◌∙◌}
+use mathlib.Core.Path.{sym, ap, ◌∙◌}
 use Prim.Native.Nat.{ℕ}
-use Rattle.meaning.specs.Answers.{Result, refusal_of}
+use Rattle.meaning.specs.Answers.{refusal_of}
 use Rattle.error.specs.Refusals as refusals
 use Rattle.error.proofs.Refusals.{number_of}
 use Rattle.literal_c.proofs.vireo_refusal.Goals as goal

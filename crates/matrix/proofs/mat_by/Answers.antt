@@ -2,7 +2,7 @@
 use Rattle.error.proofs.BufferAtExit.{builds_no}
 use Rattle.shape.proofs.Downs.{kind_stays, kind_goes}
 use Rattle.matrix.proofs.Downs.{float_no}
-use Rattle.matrix.proofs.MatrixParts.{mat_no, mat_asked, mat_made}
+use Rattle.matrix.proofs.MatrixParts.{first_of, mat_no, mat_asked, mat_made}
 use Rattle.matrix.proofs.mat_by.Goals as goal
 
 pub returns-then-not-kind_converts : goal.returns-then-not-kind_converts
@@ -13,10 +13,10 @@ returns-then-not-kind_converts c =
 
 pub mat_to-requires : goal.mat_to-requires
 mat_to-requires c =
-    let k = float_no _ c.requires.kind in
-    let d = kind_goes k.0 k.1 _ (c.requires.first_as.down _ _ c.requires.some_first.row) c.kind_converts.ensures
-    (c.if-not-kind_converts.false) in
-    mat_asked c.requires.some_first.row k.0 k.1 c.requires.some_first.size d (c.requires.first_as.stands k.0 _ _ k.1 c.requires.some_first.row)
+    let k = float_no _ c.args.kind.float in
+    let f = first_of c.args.args.given c.requires.some in
+    let d = kind_goes k.0 k.1 _ (c.requires.first_as.down _ _ f.row) c.kind_converts.ensures c.if-not-kind_converts.false in
+    mat_asked f.row k.0 k.1 f.size d (c.requires.first_as.stands k.0 _ _ k.1 f.row)
 
 pub returns : goal.returns
 returns c =

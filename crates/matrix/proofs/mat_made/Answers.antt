@@ -1,5 +1,7 @@
 -- The constructor's refusals decide; then the length, and the literals made.
 use mathlib.Core.Path.{sym, ◌∙◌}
+use Rattle.std.proofs.Common.{rules}
+use Rattle.record.proofs.Puts.{put_left}
 use Rattle.error.proofs.BufferAtExit.{builds_as, builds_no}
 use Rattle.error.proofs.Refusals.{passed_on}
 use Rattle.scalar.proofs.MadeValues.{making_items, making_ok, making_no, making_room, making_put}
@@ -34,4 +36,4 @@ returns c =
     builds_as c.args.out.now (remade x o.1)
     (hands_put _ _ j o.0 (remade_shaped x o.1) c.args.out.now (sym (c.room_for.ensures j x.ctor.no)
     ∙ c.if-not-room_for.false)
-    (making_put (remaking x) x.ctor o.1 c.write_made.ensures))
+    (put_left (making_put (remaking x) x.ctor o.1 c.write_made.ensures.put) (search rules)))

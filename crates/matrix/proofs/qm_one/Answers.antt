@@ -1,35 +1,34 @@
 -- The mark, the size; then the record as it stands.
-use mathlib.Core.Path.{refl, sym, ◌∙◌}
+use mathlib.Core.Path.{refl, ap, ◌∙◌}
+use mathlib.Core.Bool.{not}
 use mathlib.Core.List.{[], ◌∷◌}
 use native.Mathlib.Omega.{arith}
 use Rattle.error.proofs.BufferAtExit.{builds_as, builds_no}
 use Rattle.args.proofs.Kept.{hand_kept}
-use Rattle.matrix.proofs.OneToMatrix.{one_mark, qm_other, matrix_is, qm_unequal, qm_kept}
+use Rattle.scalar.specs.Made.{one_given}
+use Rattle.matrix.proofs.OneToMatrix.{one_mark, qm_other, same_told, matrix_is, qm_unequal, qm_kept}
 use Rattle.matrix.proofs.qm_one.Goals as goal
 
-pub bounds-args-1 : goal.bounds-args-1
-bounds-args-1 c = search one_mark
+pub bounds-arg-1 : goal.bounds-arg-1
+bounds-arg-1 c = one_mark c.args.arg.one.row
 
-pub qm_parts-requires-clause-shape : goal.qm_parts-requires-clause-shape
-qm_parts-requires-clause-shape c = c.requires.shape
+pub invariant_of-values : goal.invariant_of-values
+invariant_of-values c = record { given = one_given c.args.arg.one }
 
-pub qm_parts-requires-clause-some_first : goal.qm_parts-requires-clause-some_first
-qm_parts-requires-clause-some_first c = record { value = _; others = []; row = c.requires.one_arg.row; size = refl }
-
-pub returns-then-args-ne109 : goal.returns-then-args-ne109
-returns-then-args-ne109 c =
-    λ v x. builds_as _ (qm_other x _ _ c.if-args-ne109.true)
+pub returns-then-arg-ne109 : goal.returns-then-arg-ne109
+returns-then-arg-ne109 c =
+    λ v x. builds_as _ (qm_other x _ _ c.if-arg-ne109.true)
     (c.qm_parts.ensures (v ∷ []) x (omega arith) refl)
 
-pub same_size-requires : goal.same_size-requires
-same_size-requires c = (matrix_is c.requires.one_arg.row c.if-args-ne109.false).room
+pub size_of-requires : goal.size_of-requires
+size_of-requires c = (matrix_is c.args.arg.one.row c.if-arg-ne109.false).room
 
-pub returns-then-not-same_size : goal.returns-then-not-same_size
-returns-then-not-same_size c =
-    λ v x. builds_no _ _ (qm_unequal x c.if-args-ne109.false _ _
-    (sym c.same_size.ensures ∙ c.if-not-same_size.true))
+pub returns-then-ne : goal.returns-then-ne
+returns-then-ne c =
+    λ v x. builds_no _ _ (qm_unequal x c.if-arg-ne109.false _ _
+    (same_told c.args.arg.bytes.now _ _ c.size_of.ensures.columns c.size_of.ensures.rows c.ne.ensures ∙ ap not c.if-ne.true))
 
 pub returns : goal.returns
 returns c =
-    λ v x. hand_kept x (qm_kept x (search) _ _ (sym c.same_size.ensures ∙ c.if-not-same_size.false))
+    λ v x. hand_kept x (qm_kept x (search) _ _ (same_told c.args.arg.bytes.now _ _ c.size_of.ensures.columns c.size_of.ensures.rows c.ne.ensures ∙ ap not c.if-ne.false))
     c.hand.ensures

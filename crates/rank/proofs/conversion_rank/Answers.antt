@@ -21,10 +21,10 @@ returns-in_err-found c =
     rw (passed_on c.from_residual.result c.from_residual.ensures.1, m.1)
     (sym (no_answer _ _ (bad_target _ c.read_target.ensures m.0) refl))
 
-pub rank_to-requires : goal.rank_to-requires
-rank_to-requires c =
-    let m = subst (Meant _) c.in-Type.is (found (goal.at.rank_to-requires c).In_ok-found) in
-    record { type = m.type; stands = m.stands }
+pub invariant_of-to : goal.invariant_of-to
+invariant_of-to c =
+    let m = subst (Meant _) c.in-Type.is (found (goal.at.invariant_of-to c).In_ok-found) in
+    record { one = record { type = m.type; stands = m.stands } }
 
 pub returns-in-Type : goal.returns-in-Type
 returns-in-Type c =

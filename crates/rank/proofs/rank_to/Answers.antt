@@ -4,6 +4,7 @@ use Rattle.meaning.specs.Trees.{Of}
 use Rattle.meaning.specs.Records.{good_arg}
 use Rattle.meaning.specs.Entries.{rank_one}
 use Rattle.record.proofs.Starts.{decided, refuted}
+use Rattle.std.proofs.Common.{rules}
 use Rattle.error.specs.Refusals.{paper}
 use Rattle.rank.proofs.Ranks.{one_read, none_read, rank_told}
 use Rattle.rank.proofs.rank_to.Goals as goal
@@ -11,14 +12,8 @@ use Rattle.rank.proofs.rank_to.Goals as goal
 pub returns-then-not-is_type : goal.returns-then-not-is_type
 unfolding paper good_arg rank_one
 returns-then-not-is_type c =
-    λ t w. none_read (Of t) (λ u. refl) (λ i. (c.shared_slice_known-2-1.given i).fits)
+    λ t w. none_read (Of t) (λ u. refl) (λ i. search rules)
     (refuted c.is_type.ensures c.if-not-is_type.true)
-
-pub type_rank-requires-clause-one_type : goal.type_rank-requires-clause-one_type
-type_rank-requires-clause-one_type c = (decided c.is_type.ensures c.if-not-is_type.false).ends
-
-pub type_rank-requires-clause-one_type_2 : goal.type_rank-requires-clause-one_type_2
-type_rank-requires-clause-one_type_2 c = c.requires
 
 pub returns : goal.returns
 unfolding good_arg rank_one

@@ -4,6 +4,7 @@ use Rattle.meaning.specs.Trees.{Tr}
 use Rattle.meaning.specs.Records.{good_arg}
 use Rattle.meaning.specs.Entries.{rank_one}
 use Rattle.record.proofs.Starts.{decided, refuted}
+use Rattle.std.proofs.Common.{rules}
 use Rattle.error.specs.Refusals.{paper}
 use Rattle.rank.proofs.Ranks.{one_read, none_read}
 use Rattle.rank.proofs.rank_to_runtime.Goals as goal
@@ -11,7 +12,7 @@ use Rattle.rank.proofs.rank_to_runtime.Goals as goal
 pub returns-then-not-is_type : goal.returns-then-not-is_type
 unfolding paper good_arg rank_one
 returns-then-not-is_type c =
-    λ t. none_read (Tr t) (λ u. refl) (λ i. (c.shared_slice_known-1.given i).fits)
+    λ t. none_read (Tr t) (λ u. refl) (λ i. search rules)
     (refuted c.is_type.ensures c.if-not-is_type.true)
 
 pub returns : goal.returns

@@ -1,7 +1,7 @@
 -- Each answer is the rank, for whichever types stand there.
 use mathlib.Core.Path.{sym, ◌∙◌}
 use Rattle.record.proofs.Equal.{same_is}
-use Rattle.rank.proofs.Ranks.{rank_same, rank_from_struct, rank_to_struct, rank_shape, rank_no_shape, some_byte}
+use Rattle.rank.proofs.Ranks.{rank_same, rank_from_struct, rank_to_struct, rank_shape, rank_no_shape}
 use Rattle.rank.proofs.type_rank.Goals as goal
 
 pub returns-then-eq : goal.returns-then-eq
@@ -17,14 +17,6 @@ returns-in_err-k c =
     rw c.from_residual-in_err-k.ensures
     (λ t u w v. rank_to_struct w v (c.eq.ensures ∙ same_is _ _) c.if-eq.false (sym c.in_ok-j.was ∙ c.leaf_at.ensures t _ w)
     (sym c.in_err-k.was ∙ c.leaf_at-2.ensures u _ v))
-
-pub same_shape-requires-clause-some_a : goal.same_shape-requires-clause-some_a
-same_shape-requires-clause-some_a c =
-    some_byte c.requires.one_type.stands (sym c.in_ok-j.was ∙ c.leaf_at.ensures _ _ c.requires.one_type.stands)
-
-pub same_shape-requires-clause-some_b : goal.same_shape-requires-clause-some_b
-same_shape-requires-clause-some_b c =
-    some_byte c.requires.one_type_2.stands (sym c.in_ok-k.was ∙ c.leaf_at-2.ensures _ _ c.requires.one_type_2.stands)
 
 pub returns-then-same_shape : goal.returns-then-same_shape
 returns-then-same_shape c =

@@ -1,25 +1,20 @@
 -- What writes the rest makes the whole; the padding behind each vector leads to the next.
 use native.Mathlib.Omega.{arith}
-use Rattle.read_layout.proofs.Vectors.{columns_all, column_room, column_within, column_on, columns_end}
+use Rattle.read_layout.proofs.Vectors.{columns_all, column_room, column_on, columns_end}
 use Rattle.read_layout.proofs.read_columns.Goals as goal
 
 pub loop-init : goal.loop-init
-loop-init c = columns_all c.args.mem.now c.args.at c.args.n c.args.r c.args.k c.args.pad c.args.out.now c.args.to
+loop-init c =
+    (columns_all c.args.mem.now c.args.at c.args.n c.args.r c.args.k c.args.pad c.args.w.now.out.now c.args.w.now.at, search)
 
-pub read_vector-w-requires : goal.read_vector-w-requires
-read_vector-w-requires c = search column_room
-
-pub overflow_add-i : goal.overflow_add-i
-overflow_add-i c =
-    omega (
-      arith,
-      column_within c.requires
-          c.loop.invariant c.loop-test.true
-          c.read_vector-w.ensures c.from-skip.ensures,
-    )
+pub read_vector-requires : goal.read_vector-requires
+read_vector-requires c = column_room c.requires c.loop.invariant.0 c.loop-test.true
 
 pub loop-preserved : goal.loop-preserved
-loop-preserved c = search column_on
+loop-preserved c = (
+  column_on c.requires c.loop.invariant.0 c.loop-test.true c.read_vector.ensures.moved c.from-skip.ensures,
+  search,
+)
 
-pub returns : goal.returns
-returns c = columns_end c.requires c.loop.invariant (omega arith)
+pub returns-clause-moved : goal.returns-clause-moved
+returns-clause-moved c = columns_end c.requires c.loop.invariant.0 (omega arith)

@@ -23,10 +23,14 @@ returns-in_err-found c =
     rw (passed_on c.from_residual.result c.from_residual.ensures.1, m.1)
     (refused _ _ (no_answer _ _ _ 1 (bad_target _ c.read_target.ensures m.0) refl))
 
+pub invariant_of-read_type : goal.invariant_of-read_type
+invariant_of-read_type c =
+    let m = subst (Meant _) c.in-Type.is (found (goal.at.invariant_of-read_type c).In_ok-found) in
+    record { one = record { type = m.type; stands = m.stands } }
+
 pub read_type-requires : goal.read_type-requires
 read_type-requires c =
-    let m = subst (Meant _) c.in-Type.is (found (goal.at.read_type-requires c).In_ok-found) in
-    (record { type = m.type; stands = m.stands }, type_short _ m)
+    type_short _ (subst (Meant _) c.in-Type.is (found (goal.at.read_type-requires c).In_ok-found))
 
 pub returns-in-Type : goal.returns-in-Type
 returns-in-Type c =

@@ -14,18 +14,18 @@ use Rattle.read_layout.proofs.Answers.{no_layout, other_size, its_size, sized}
 use Rattle.read_layout.proofs.read_type.Goals as goal
 use Rattle.read_layout.proofs.read_type.Goals.{In_ok-extent}
 
-size_is : (c : In_ok-extent) {t : Ty} → Whole c.args.target.now t
-    → SizeIs c.in_ok-extent.extent (length c.args.target.now) (size_of t) (align_of t)
+size_is : (c : In_ok-extent) {t : Ty} → Whole c.args.target.bytes.now t
+    → SizeIs c.in_ok-extent.extent (length c.args.target.bytes.now) (size_of t) (align_of t)
 size_is c w =
     is_extent _ _ _ (sym (present _ _ c.ok_or.ensures.value c.in_ok-extent.was) ∙ (c.measure.ensures _ _ w).is)
 
-its_sized : (c : In_ok-extent) {t : Ty} → c.in_ok-extent.extent.size ≡ length c.args.mem.now → Whole c.args.target.now t
-    → Sized c.args.target.now c.measure.new.pads c.args.mem.now t
+its_sized : (c : In_ok-extent) {t : Ty} → c.in_ok-extent.extent.size ≡ length c.args.mem.now → Whole c.args.target.bytes.now t
+    → Sized c.args.target.bytes.now c.measure.new.pads c.args.mem.now t
 its_sized c {t} e w =
     let n = size_is c w in
     sized t c.args.mem.now 0 (c.has_layout.ensures t w) c.if-not-has_layout.false w
     ((c.measure.ensures t _ w).table n.fits)
-    (omega (arith, c.requires.1, c.measure.auto.pads)) (sym e ∙ n.size)
+    (omega (arith, c.requires, c.measure.auto.pads)) (sym e ∙ n.size)
 
 pub returns-then-not-has_layout : goal.returns-then-not-has_layout
 returns-then-not-has_layout c = λ t w. refused _ _ (no_layout t _ _ (c.has_layout.ensures t w) c.if-not-has_layout.true)
@@ -46,8 +46,8 @@ returns-then-extent-mem c =
 pub read_sized-requires : goal.read_sized-requires
 read_sized-requires c =
     record {
-      type = c.requires.0.type;
-      sized = its_sized (goal.at.read_sized-requires c).In_ok-extent c.if-extent-mem.false c.requires.0.stands;
+      type = c.args.target.one.type;
+      sized = its_sized (goal.at.read_sized-requires c).In_ok-extent c.if-extent-mem.false c.args.target.one.stands;
     }
 
 pub returns : goal.returns

@@ -14,8 +14,8 @@ use Rattle.scalar.proofs.write_made.Given as goal
 
 abbrev pub invariant-loop-i : goal.invariant-loop-i
 invariant-loop-i v =
-    (length v.out ≡ length v.initial.out) × ((s : Stage) (j : Kind) (l m : List Item) → Ctor v.rules v.k s j → ItemsAt v.src v.from v.end l
-    → make_items s j l ≡ ok m → Writing (made_of s j) v.src v.end v.initial.out v.to m v.i v.p v.out)
+    (v.own.out.ghost_name ≡ v.initial.own.out.ghost_name) × ((s : Stage) (j : Kind) (l m : List Item) → Ctor v.rules v.k s j → ItemsAt v.items 0 (length v.items) l
+    → make_items s j l ≡ ok m → Writing (made_of s j) v.items (length v.items) v.initial.own.out.now v.initial.own.at m v.i v.own.at v.own.out.now)
 
 abbrev pub decreases-loop-i : goal.decreases-loop-i
-decreases-loop-i l = l.end - l.i
+decreases-loop-i l = length l.items - l.i

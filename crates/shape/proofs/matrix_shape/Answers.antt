@@ -7,28 +7,28 @@ use Rattle.shape.proofs.matrix_shape.Goals as goal
 pub returns-then-count-n : goal.returns-then-count-n
 returns-then-count-n c =
     λ t e w. scalars_few w _ _ _ (sym c.in-Scalar.is
-    ∙ c.head_at.ensures t e w) c.times-n.ensures c.if-count-n.true
+    ∙ c.head_at.ensures t e w) c.scalars-n.ensures c.if-count-n.true
 
-pub returns-then-n-r : goal.returns-then-n-r
-returns-then-n-r c =
+pub returns-then-n-size : goal.returns-then-n-size
+returns-then-n-size c =
     λ t e w. column_short w _ _ _ (sym c.in-Vector.is ∙ c.head_at.ensures t e w)
-    c.if-n-r.true
+    c.if-n-size.true
 
 pub returns-then-count-w : goal.returns-then-count-w
 returns-then-count-w c =
     λ t e w. columns_few w _ _ _ (sym c.in-Vector.is
-    ∙ c.head_at.ensures t e w) c.if-n-r.false
+    ∙ c.head_at.ensures t e w) c.if-n-size.false
     c.from-w.ensures c.if-count-w.true
 
 pub returns-else-count-n : goal.returns-else-count-n
 returns-else-count-n c =
     λ t e w. scalars_right w _ _ _ (sym c.in-Scalar.is
-    ∙ c.head_at.ensures t e w) c.times-n.ensures c.if-count-n.false
+    ∙ c.head_at.ensures t e w) c.scalars-n.ensures c.if-count-n.false
 
 pub returns-else-count-w : goal.returns-else-count-w
 returns-else-count-w c =
     λ t e w. columns_right w _ _ _ (sym c.in-Vector.is
-    ∙ c.head_at.ensures t e w) c.if-n-r.false
+    ∙ c.head_at.ensures t e w) c.if-n-size.false
     c.from-w.ensures c.if-count-w.false
 
 pub returns-in-Matrix : goal.returns-in-Matrix

@@ -9,5 +9,5 @@ use Rattle.ty.proofs.matrix_len.Goals as goal
 pub returns : goal.returns
 unfolding val_len
 returns c =
-    sized_times 4 c.args.c c.from.result c.args.kind (3 + 255 * most_lit) c.vector_len.result (λ j. val_len (Tv c.args.r j))
-    c.from.ensures (omega arith) c.vector_len.ensures
+    sized_times 4 c.args.size.columns c.from.result c.args.kind (3 + 255 * most_lit) c.vector_len.result
+    (λ j. val_len (Tv c.args.size.rows j)) c.from.ensures (omega arith) c.vector_len.ensures

@@ -11,4 +11,4 @@ pub returns-in_err-k : goal.returns-in_err-k
 returns-in_err-k c =
     λ l g. rw (passed_on c.from_residual.result c.from_residual.ensures.1)
     (answer_no _ _
-    (subst (Names (Tm c.args.c c.args.r) (typed (Qm c.args.c c.args.r) l)) c.in_err-k.was (c.name_matrix.ensures l g)))
+    (subst (Names (Tm c.args.size.columns c.args.size.rows) (typed (Qm c.args.size.columns c.args.size.rows) l)) c.in_err-k.was (c.name_matrix.ensures l g)))

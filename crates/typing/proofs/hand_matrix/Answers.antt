@@ -8,4 +8,4 @@ use Rattle.typing.proofs.hand_matrix.Goals as goal
 pub returns : goal.returns
 returns c =
     λ j e. told_as
-    (hand_type (length c.args.out.now) (Tm c.args.c c.args.r j) (matrix_bytes c.args.c c.args.r j e)) c.hand.ensures
+    (hand_type (length c.args.out.now) (Tm c.args.size.columns c.args.size.rows j) (matrix_bytes c.args.size.columns c.args.size.rows j e)) c.hand.ensures

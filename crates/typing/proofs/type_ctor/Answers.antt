@@ -20,14 +20,16 @@ returns-in_err-count c =
     (refused _ _ (no_args _ _ _ (none_read read_tys c.args.target.now c.args.args.now c.read_target.ensures
     (present _ _ c.ok_or.ensures.value c.in_ok-found.was) c.type_args.ensures m.0)))
 
+pub invariant_of-given : goal.invariant_of-given
+invariant_of-given c =
+    let x = both_read read_tys c.args.target.now c.args.args.now c.read_target.ensures
+    (present _ _ c.ok_or.ensures.value c.in_ok-found.was) c.type_args.ensures
+    (present _ _ c.ok_or-2.ensures.value c.in_ok-count.was) in
+    record { given = record { types = x.items; given = read_given _ (λ i. (c.type_inv.args i).fits) x } }
+
 pub answer_target-requires : goal.answer_target-requires
 answer_target-requires c =
-    let h = present _ _ c.ok_or.ensures.value c.in_ok-found.was in
-    let x = both_read read_tys c.args.target.now c.args.args.now c.read_target.ensures h c.type_args.ensures
-    (present _ _ c.ok_or-2.ensures.value c.in_ok-count.was) in (
-      meant _ (λ i. (c.type_inv.target i).fits) c.read_target.ensures h,
-      record { types = x.items; given = read_given _ (λ i. (c.type_inv.args i).fits) x },
-    )
+    meant _ (λ i. (c.type_inv.target i).fits) c.read_target.ensures (present _ _ c.ok_or.ensures.value c.in_ok-found.was)
 
 pub returns : goal.returns
 returns c =

@@ -11,8 +11,8 @@ use Rattle.vector.proofs.put_parts.Given as goal
 
 abbrev pub invariant-loop-i : goal.invariant-loop-i
 invariant-loop-i v =
-    (j : Kind) (l : List Val) (ps : List ℕ) → v.k ≡ kind_no j → Goes j v.args 0 l ps
-    → PutLeft j v.args v.initial.out v.to ps v.i v.p v.out
+    (v.w.out.ghost_name ≡ v.initial.w.out.ghost_name) × ((j : Kind) (l : List Val) (ps : List ℕ) → v.k ≡ kind_no j → Goes j v.args 0 l ps
+    → PutLeft j v.args v.initial.w.out.now v.initial.w.at ps v.i v.w.at v.w.out.now)
 
 abbrev pub decreases-loop-i : goal.decreases-loop-i
 decreases-loop-i l = length l.args - l.i

@@ -2,29 +2,23 @@
 use native.Mathlib.Omega.{arith}
 use Rattle.error.proofs.BufferAtExit.{builds_as, builds_no}
 use Rattle.error.proofs.Refusals.{passed_on, missing, present}
-use Rattle.vector.proofs.Args.{arg_front, arg_literal, literal_bits}
+use Rattle.vector.proofs.Args.{arg_literal, literal_bits}
 use Rattle.vector.proofs.OneToVector.{vec_unfit, vec_splat, splat_in}
 use Rattle.vector.proofs.splat.Goals as goal
 
-pub bounds-args-2 : goal.bounds-args-2
-bounds-args-2 c = omega (arith, arg_front c.requires.one_arg.row)
+pub literal_at-literal-requires : goal.literal_at-literal-requires
+literal_at-literal-requires c = omega (arith, (arg_literal c.args.arg.one.row c.requires).room)
 
-pub payload_at-bits-requires : goal.payload_at-bits-requires
-payload_at-bits-requires c = omega (arith, (arg_literal c.requires.one_arg.row c.requires.mark).room)
-
-pub repeated-requires : goal.repeated-requires
-repeated-requires c = c.requires.some_kind
-
-pub returns-in_err-payload : goal.returns-in_err-payload
-returns-in_err-payload c =
-    let m = missing _ _ c.ok_or.ensures.value c.in_err-payload.was in
+pub returns-in_err-bits : goal.returns-in_err-bits
+returns-in_err-bits c =
+    let m = missing _ _ c.ok_or.ensures.value c.in_err-bits.was in
     rw (passed_on c.from_residual.result c.from_residual.ensures.1, m.1)
-    (λ s j v e x. let y = arg_literal x c.requires.mark in
-    builds_no _ _ (vec_unfit y j e (literal_bits y c.payload_at-bits.ensures) c.convert_literal.ensures m.0 s _))
+    (λ s j v e x. let y = arg_literal x c.requires in
+    builds_no _ _ (vec_unfit y j e c.literal_at-literal.ensures.kind (literal_bits y c.literal_at-literal.ensures.bits) c.convert_to.ensures m.0 s _))
 
 pub returns : goal.returns
 returns c =
-    λ s j v e x. let y = arg_literal x c.requires.mark in
-    let q = literal_bits y c.payload_at-bits.ensures in
-    let f = present _ _ c.ok_or.ensures.value c.in_ok-payload.was in
-    builds_as _ (vec_splat y j e q c.convert_literal.ensures f s _) (c.repeated.ensures j e (splat_in y j e q c.convert_literal.ensures f))
+    λ s j v e x. let y = arg_literal x c.requires in
+    let q = literal_bits y c.literal_at-literal.ensures.bits in
+    let f = present _ _ c.ok_or.ensures.value c.in_ok-bits.was in
+    builds_as _ (vec_splat y j e c.literal_at-literal.ensures.kind q c.convert_to.ensures f s _) (c.repeated.ensures j e (splat_in y j e c.literal_at-literal.ensures.kind q c.convert_to.ensures f))

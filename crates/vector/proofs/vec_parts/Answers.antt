@@ -21,7 +21,7 @@ returns-then-not-all_flat c =
 
 pub fits-requires : goal.fits-requires
 fits-requires c =
-    flat_items c.requires.some_kind.kind c.requires.some_row.row (subst T (sym (c.if-not-all_flat.false) ∙ c.all_flat.ensures _ c.requires.some_row.row)
+    flat_items c.args.kind.some.kind c.requires.some_row.row (subst T (sym (c.if-not-all_flat.false) ∙ c.all_flat.ensures _ c.requires.some_row.row)
     tt)
 
 pub returns-then-not-fits : goal.returns-then-not-fits
@@ -35,11 +35,11 @@ pub write_parts-requires : goal.write_parts-requires
 write_parts-requires c =
     let f = subst T (sym (c.if-not-all_flat.false)
     ∙ c.all_flat.ensures _ c.requires.some_row.row) tt in
-    let g = fits_goes c.requires.some_kind.kind c.requires.some_row.row f c.requires.some_kind.no c.fits.ensures
+    let g = fits_goes c.args.kind.some.kind c.requires.some_row.row f c.args.kind.some.no c.fits.ensures
     (c.if-not-fits.false) in
     record {
-      some = record { kind = c.requires.some_kind.kind; no = c.requires.some_kind.no; values = _; pays = g.0; goes = g.1 };
-      count = some_length (pay_to c.requires.some_kind.kind) _ g.0 g.1.goes
+      some = record { kind = c.args.kind.some.kind; no = c.args.kind.some.no; values = _; pays = g.0; goes = g.1 };
+      count = some_length (pay_to c.args.kind.some.kind) _ g.0 g.1.goes
           ∙ (sym (c.flat_count-m.ensures _ c.requires.some_row.row) ∙ c.if-m-wanted.false);
     }
 

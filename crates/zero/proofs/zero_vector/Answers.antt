@@ -1,6 +1,8 @@
 -- The length that the kind says decides.
+use Rattle.std.proofs.Common.{rules}
 use native.Mathlib.Omega.{arith}
 use Rattle.ty.proofs.Numbers.{kind_of_lem}
+use Rattle.record.proofs.Puts.{put_left}
 use Rattle.zero.proofs.ZeroAnswers.{zero_refused, zero_record, vector_bytes, vector_shaped, vector_long}
 use Rattle.zero.proofs.zero_vector.Goals as goal
 
@@ -24,4 +26,4 @@ pub returns : goal.returns
 returns c =
     λ j e. zero_record _ (vector_shaped c.args.n j e c.requires.sides) c.args.out.now
     (omega (arith, c.vector_len.ensures.is j e, c.if-vector_len-out.false))
-    (rw (vector_bytes c.args.n j e) c.put_vector.ensures)
+    (rw (vector_bytes c.args.n j e) (put_left c.put_vector.ensures.put (search rules)))

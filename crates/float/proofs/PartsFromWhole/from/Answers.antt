@@ -6,4 +6,4 @@ use Rattle.float.proofs.PartsFromWhole.from.Goals as goal
 
 pub returns : goal.returns
 unfolding integer
-returns c = record { means = refl; small = search rules }
+returns c = rw c.whole.ensures (record { means = refl; small = search rules })
