@@ -121,7 +121,8 @@ fn put_ok(bytes: &[u8], w: &mut Writer)
     w.put_byte(b'\n');
 }
 
-fn put_no(n: u8, w: &mut Writer)
+// A refusal by its number, whichever that is.
+pub fn put_no(n: u8, w: &mut Writer)
     requires { w.old.at + 24 ≤ length w.old.out.now }
     ensures put { Put w.old.out.now w.old.at (line (no n)) w.new.at w.new.out.now }
     ensures upper_bound { w.new.at ≤ length w.new.out.now }

@@ -137,6 +137,18 @@ impl Answer {
         }
     }
 
+    // A refusal by its number, whichever that is.
+    pub fn numbered(n: u8) -> Answer
+        ensures { result ≡ numbers n 0 0 0 }
+    {
+        Answer {
+            refusal: n as u64,
+            value: 0,
+            wanted: 0,
+            given: 0,
+        }
+    }
+
     pub fn refused(refusal: Refusal) -> Answer
         ensures { result ≡ refused_numbers refusal }
     {
@@ -148,12 +160,7 @@ impl Answer {
                 given: given as u64,
             };
         }
-        Answer {
-            refusal: refusal.number() as u64,
-            value: 0,
-            wanted: 0,
-            given: 0,
-        }
+        Answer::numbered(refusal.number())
     }
 }
 

@@ -483,55 +483,82 @@ pub fn nonzero(v: Parts) -> bool
     }
 }
 
+// ---- finite or not: by a format's numbers, which are p, its significand's digits, emax, its largest exponent, and w, the
+// bits of its exponent's field; and the same by its type
+
 // Whether a pattern is a finite number's: no infinity's and no NaN's.
+pub fn is_finite_by(p: u64, emax: u64, w: u64, b: u64) -> bool
+    requires { Layout p emax w }
+    ensures { result ≡ Floats.finite p emax b }
+{
+    low_bits(b >> (p - 1), w) < 2 * emax + 1
+}
+
 pub fn is_finite<F: Pattern>(b: u64) -> bool
     ensures { result ≡ Floats.finite F.DIGITS F.EMAX b }
 {
-    field::<F>(b) < largest_field::<F>()
+    is_finite_by(F::DIGITS, F::EMAX, F::EXPONENT_BITS, b)
 }
 
-// The format's largest finite value: DIGITS ones, with EMAX + 1 - DIGITS places below them.
-fn largest<F: Format>() -> Magnitude
-    requires { F.DIGITS ≤ F.EMAX + 1 }
-    ensures { size result ≡ Floats.largest F.DIGITS F.EMAX * 2 ^ 1074 }
+// The largest finite value: p ones, with emax + 1 - p places below them.
+fn largest(p: u64, emax: u64) -> Magnitude
+    requires { IsFormat p emax × (p ≤ emax + 1) }
+    ensures { size result ≡ Floats.largest p emax * 2 ^ 1074 }
 {
     Magnitude {
-        significand: (1 << F::DIGITS) - 1,
-        exponent: F::EMAX + 1 - F::DIGITS + 1074,
+        significand: (1 << p) - 1,
+        exponent: emax + 1 - p + 1074,
     }
 }
 
-// Half a last place past it: DIGITS + 1 ones, with EMAX - DIGITS places below them. There is a tie there, and the even
-// neighbour is the infinity.
-fn threshold<F: Format>() -> Magnitude
-    ensures { size result ≡ Rounding.threshold F.DIGITS F.EMAX }
+// Half a last place past it: p + 1 ones, with emax - p places below them. There is a tie there, and the even neighbour
+// is the infinity.
+fn threshold(p: u64, emax: u64) -> Magnitude
+    requires { IsFormat p emax }
+    ensures { size result ≡ Rounding.threshold p emax }
 {
     Magnitude {
-        significand: (1 << (F::DIGITS + 1)) - 1,
-        exponent: F::EMAX + 1074 - F::DIGITS,
+        significand: (1 << (p + 1)) - 1,
+        exponent: emax + 1074 - p,
     }
 }
 
 // Whether a number is past the format's largest finite value, on either side, or no number: `!range.contains(n)`.
-pub fn outside<F: Format>(v: Parts) -> bool
-    requires { F.DIGITS ≤ F.EMAX + 1 }
-    ensures { result ≡ Floats.outside F.DIGITS F.EMAX (meaning v) }
+pub fn outside_by(p: u64, emax: u64, v: Parts) -> bool
+    requires format { IsFormat p emax }
+    requires p_bound { p ≤ emax + 1 }
+    ensures { result ≡ Floats.outside p emax (meaning v) }
 {
     match v {
         Parts::Nan => true,
         Parts::Inf(_) => true,
-        Parts::Fin(_, x) => x.beyond(largest::<F>()),
+        Parts::Fin(_, x) => x.beyond(largest(p, emax)),
     }
 }
 
+pub fn outside<F: Format>(v: Parts) -> bool
+    requires { F.DIGITS ≤ F.EMAX + 1 }
+    ensures { result ≡ Floats.outside F.DIGITS F.EMAX (meaning v) }
+{
+    outside_by(F::DIGITS, F::EMAX, v)
+}
+
 // Whether the nearest value of the format is finite, told without making its pattern: it is finite below the threshold.
-pub fn rounds_finite<F: Format>(v: Parts) -> bool
-    requires { (2 ≤ F.DIGITS) × (1 ≤ F.EMAX) }
-    ensures { result ≡ Floats.finite F.DIGITS F.EMAX (bits F.DIGITS F.EMAX (meaning v)) }
+pub fn rounds_finite_by(p: u64, emax: u64, v: Parts) -> bool
+    requires format { IsFormat p emax }
+    requires least { (2 ≤ p) × (1 ≤ emax) }
+    ensures { result ≡ Floats.finite p emax (bits p emax (meaning v)) }
 {
     match v {
         Parts::Nan => false,
         Parts::Inf(_) => false,
-        Parts::Fin(_, x) => threshold::<F>().beyond(x),
+        Parts::Fin(_, x) => threshold(p, emax).beyond(x),
     }
+}
+
+pub fn rounds_finite<F: Format>(v: Parts) -> bool
+    requires { (2 ≤ F.DIGITS) × (1 ≤ F.EMAX) }
+    ensures { result ≡ Floats.finite F.DIGITS F.EMAX (bits F.DIGITS F.EMAX (meaning v)) }
+{
+    rounds_finite_by(F::DIGITS, F::EMAX, v)
 }

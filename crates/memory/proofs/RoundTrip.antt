@@ -148,7 +148,7 @@ module _ (v : Val) (g : T (good_val v)) (h : T (has_layout (type_of v))) where
         le-leb (val_len (type_of v)) room l,
       )
 
--- what was read of bytes of a type's size is written as the same bytes but for the padding
+-- bytes of a type's size are read, and what was read is written as the same bytes but for the padding
 module _ (t : Ty) (g : T (good_ty t)) (h : T (has_layout t)) (s : List ℕ) (b : Bytes s) (n : length s ≡ size_of t) where
   shaped : T (shaped_ty t)
   unfolding good_ty
@@ -156,6 +156,17 @@ module _ (t : Ty) (g : T (good_ty t)) (h : T (has_layout t)) (s : List ℕ) (b :
 
   typed : type_of (mem_value t s) ≡ t
   typed = mem_typed t s shaped
+
+  pub reads_bytes : (room : ℕ) → val_len t ≤ room → read_answer (ty_bytes t) s room ≡ ok (val_bytes (mem_value t s))
+  unfolding read_answer laid_type good_target target_bytes hand_val
+  reads_bytes room l = rw (
+    target_exact.back (Of t) g,
+    true_of (has_layout t) h,
+    eq-eqb (length s) (size_of t) n,
+    typed,
+    le-leb (val_len t)
+        room l,
+  )
 
   pub writes_bytes : (room : ℕ) → size_of t ≤ room → write_answer (val_bytes (mem_value t s)) room ≡ ok (cleared (used t) s)
   writes_bytes room l =

@@ -32,10 +32,14 @@ module _ (a : ℕ) (h : Align a) where
   pub align_small : a ≤ 16
   align_small = by_align (λ a. a ≤ 16) (omega arith) (omega arith) (omega arith) (omega arith) (omega arith) a h
 
-  -- it is not before n, and a multiple of the alignment
+  -- it is not before n, less than the alignment behind it, and a multiple of the alignment
   pub up_more : (n : ℕ) → n ≤ round_up a n
   unfolding round_up
   up_more n = by_align (λ a. n ≤ (n + (a - 1)) / a * a) (omega arith) (omega arith) (omega arith) (omega arith) (omega arith) a h
+
+  pub up_less : (n : ℕ) → round_up a n < n + a
+  unfolding round_up
+  up_less n = by_align (λ a. (n + (a - 1)) / a * a < n + a) (omega arith) (omega arith) (omega arith) (omega arith) (omega arith) a h
 
   pub up_whole : (n : ℕ) → round_up a n % a ≡ 0
   unfolding round_up

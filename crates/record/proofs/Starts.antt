@@ -64,6 +64,16 @@ module _ (s : List ℕ) (at : ℕ) where
           room = omega (arith, x.room);
         }
 
+    pub starts_l : Starts s at (a ++ b) → Starts s at a
+    starts_l x =
+        let y = starts_r x in
+        let l : at + length (a ++ b) ≡ at + length a + length b = omega (arith, length-append a b) in
+        record {
+          here = x.here ∙ (append_assoc a b (drop (at + length (a ++ b)) s)
+              ∙ ap (λ (r : List ℕ). a ++ r) (ap (λ (n : ℕ). b ++ drop n s) l ∙ sym y.here));
+          room = omega (arith, x.room);
+        }
+
     -- where the first part stands, the second decides
     pub both_decides : (r : Bool) → Starts s at a → Decides (Starts s (at + length a) b) r → Decides (Starts s at (a ++ b)) r
     both_decides r x d = decides_as r d (starts_both x) starts_r

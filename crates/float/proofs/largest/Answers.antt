@@ -4,6 +4,4 @@ use Rattle.float.proofs.Ranges.{largest_is}
 use Rattle.float.proofs.largest.Goals as goal
 
 pub returns : goal.returns
-returns g c =
-    rw (c.DIGITS.ensures, c.EMAX.ensures, c.DIGITS-2.ensures)
-    (largest_is g.F.Format.DIGITS g.F.Format.EMAX 1074 (omega (arith, g.F.Format.laws)))
+returns c = largest_is c.args.p c.args.emax 1074 (omega (arith, c.requires.0))

@@ -4,6 +4,4 @@ use Rattle.float.proofs.Ranges.{threshold_is}
 use Rattle.float.proofs.threshold.Goals as goal
 
 pub returns : goal.returns
-returns g c =
-    rw (c.DIGITS.ensures, c.EMAX.ensures, c.DIGITS-2.ensures)
-    (threshold_is g.F.Format.DIGITS g.F.Format.EMAX (omega (arith, g.F.Format.laws)))
+returns c = threshold_is c.args.p c.args.emax (omega (arith, c.requires))

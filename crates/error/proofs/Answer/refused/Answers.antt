@@ -10,4 +10,5 @@ returns-in-Count c =
     ap (λ (n : ℕ). numbers n 0 c.in-Count.wanted c.in-Count.given) c.number.ensures ∙ counted_numbers _ _ _ c.in-Count.is
 
 pub returns : goal.returns
-returns c = ap (λ (n : ℕ). numbers n 0 0 0) c.number-2.ensures ∙ plain_numbers _ c.in_default.not-Count
+returns c =
+    c.numbered.ensures ∙ ap (λ (n : ℕ). numbers n 0 0 0) c.number-2.ensures ∙ plain_numbers _ c.in_default.not-Count
