@@ -16,7 +16,7 @@ use Rattle.laws.proofs.Same.{both}
 use Rattle.laws.proofs.Sound.{Bytes}
 use Rattle.laws.proofs.Exact.{val_exact}
 use Rattle.laws.proofs.Length.{val_len_lem}
-use Rattle.ty.specs.Stands.{Whole}
+use Rattle.ty.specs.Stands.{Stands}
 use Rattle.inst.specs.Values.{Typed}
 use Rattle.derive.specs.Derives as derives
 use Rattle.derive.proofs.Typings.{same_typed}
@@ -24,7 +24,7 @@ use Rattle.args.proofs.Rest.{within_of}
 use Rattle.ty.proofs.Places.{put_stands}
 use Rattle.ty.proofs.FrontOfBuffer.{front_whole}
 use Rattle.record.specs.Values.{HasVal}
-use Rattle.args.specs.OneValue.{OneValue, Found}
+use Rattle.args.specs.OneValue.{OneValue, Found, FoundAt}
 
 -- ---- a well-formed value
 
@@ -66,7 +66,7 @@ module _ {s : List ℕ} {v : Val} (x : OneValue s v) where
 -- ---- what was derived
 
 module _ {s : List ℕ} (ty : List ℕ) {ty' : List ℕ} (l : length ty ≡ 4096) where
-  pub derived_one : {e q : ℕ} → derives.Found 15 s 0 ty 0 e q ty' → e ≡ length s → Found s (take q ty')
+  pub derived_one : {e q : ℕ} → derives.Found 15 s 0 ty 0 e q ty' → e ≡ length s → FoundAt s q ty'
   unfolding good_val good_ty
   derived_one {e} {q} f h =
       let x = f.typed.fits in
@@ -81,8 +81,8 @@ module _ {s : List ℕ} (ty : List ℕ) {ty' : List ℕ} (l : length ty ≡ 4096
           good = both (shaped_val v)
               (good_within 15 4096 (type_of v)) x.shaped g;
         };
-        whole = subst (Whole (take q ty')) (sym x.type)
-            (front_whole (put_stands f.type f.typed.shaped f.typed.deep w.put w.room));
+        stands = subst (λ (t : Ty). Stands 15 ty' 0 t q) (sym x.type)
+            (put_stands f.type f.typed.shaped f.typed.deep w.put w.room);
       }
 
   -- the value that stands there ends where it ends
@@ -97,6 +97,10 @@ module _ {s : List ℕ} (ty : List ℕ) {ty' : List ℕ} (l : length ty ≡ 4096
 module _ {s : List ℕ} (ty : List ℕ) (l : length ty ≡ 4096) where
   pub derived_none : ((t : Ty) (e : ℕ) → Typed 15 s 0 t e → length ty < 0 + length (ty_bytes t)) → (v : Val) → OneValue s v → ⊥
   derived_none f v x = absurd (omega (arith, f (type_of v) (length s) (one_typed x), one_short x, l))
+
+-- the front of the buffer, up to where the type's record ends, is that record
+pub found_front : {s : List ℕ} {q : ℕ} {ty : List ℕ} → FoundAt s q ty → Found s (take q ty)
+found_front f = record { value = f.value; one = f.one; whole = front_whole f.stands }
 
 -- ---- what is read
 

@@ -2,8 +2,7 @@
 use Rattle.std.specs.Prelude.{◌≡◌, List, ℕ, T}
 use Rattle.meaning.specs.Trees.{Val, type_of}
 use Rattle.meaning.specs.Records.{val_bytes, good_val}
-use Rattle.ty.specs.Stands.{Whole}
-use Rattle.ty.specs.declared.Type as view
+use Rattle.ty.specs.Stands.{Stands, Whole}
 use Rattle.std.specs.declared.option.Option.{Option}
 use Rattle.std.specs.declared.option.Option.TheVariants.{None, Some}
 
@@ -18,6 +17,12 @@ pub record Found (s ty : List ℕ) : Type 0 where
   pub one : OneValue s value
   pub whole : Whole ty (type_of value)
 
-abbrev pub Singles : List ℕ → Option view.Type → Type 0
-Singles s (Some ty) = Found s ty.bytes.now
-Singles s None = (v : Val) → OneValue s v → ⊥
+-- and its type's record stands at the front of ty, up to q
+pub record FoundAt (s : List ℕ) (q : ℕ) (ty : List ℕ) : Type 0 where
+  pub value : Val
+  pub one : OneValue s value
+  pub stands : Stands 15 ty 0 (type_of value) q
+
+abbrev pub Singles : List ℕ → Option ℕ → List ℕ → Type 0
+Singles s (Some q) ty = FoundAt s q ty
+Singles s None ty = (v : Val) → OneValue s v → ⊥

@@ -13,7 +13,7 @@ ghost use Rattle.args.specs.Row.{SomeArg, SomeGiven, HeadOf, Skips, Types};
 ghost use Rattle.args.specs.Values.{some_given_prop};
 
 use kind::Scalar;
-use ty::{Head, Limit, Size, Target, Type};
+use ty::{Head, Limit, Size, Target};
 
 // The arguments of a call: records of well-formed values in a row, and how many they are.
 #[derive(Clone, Copy)]
@@ -261,14 +261,14 @@ pub fn next_type(args: &[u8], i: usize, ty: &mut [u8]) -> Step
 // ---- one value alone
 
 // The type of the value that the bytes are, if they are one well-formed value. Its record is written at the front of
-// `ty`.
-pub fn one_value<'t>(args: &[u8], ty: &'t mut [u8]) -> Option<Type<'t>>
+// `ty`, and the answer is where it ends.
+pub fn one_value(args: &[u8], ty: &mut [u8]) -> Option<usize>
     requires { length ty.old ≡ 4096 }
-    ensures { Singles args.now result }
+    ensures { Singles args.now result ty.new }
 {
     let (e, q) = derive::derive(args, 0, ty, 0, Limit::DEPTH)?;
     if e != args.len() {
         return None;
     }
-    Some(Type { bytes: &ty[..q] })
+    Some(q)
 }

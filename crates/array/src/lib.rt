@@ -103,7 +103,8 @@ pub fn qa_of(args: Values, out: &mut [u8]) -> Result<usize, Refusal>
     ensures { QaTold args.entry.bytes.now args.entry.count out.old result out.new }
 {
     let mut buf = [0u8; Limit::TYPE_BYTES];
-    let ty = common_type::common_type_of(args.bytes, false, &mut buf).ok_or(Refusal::NoCommonType)?;
+    let q = common_type::common_type_of(args.bytes, false, &mut buf).ok_or(Refusal::NoCommonType)?;
+    let ty = Type { bytes: &buf[..q] };
     if !convert_all::all_fit(args.bytes, 0, ty.bytes, 0, Limit::DEPTH) {
         return Err(Refusal::NoCommonType);
     }

@@ -135,7 +135,8 @@ fn check_matrix_parts(size: Size, k: u8, args: Types) -> Result<(), Refusal>
     ensures { MatrixPartsCheck size.columns size.rows k args.entry.bytes.now args.entry.count result }
 {
     let mut room = [0u8; Limit::TYPE_BYTES];
-    let ty = common_type::common_type(args.bytes, &mut room).ok_or(Refusal::NoCommonType)?;
+    let q = common_type::common_type(args.bytes, &mut room).ok_or(Refusal::NoCommonType)?;
+    let ty = Type { bytes: &room[..q] };
     matrix_from(size, k, ty, args.count)
 }
 

@@ -21,7 +21,7 @@ use Rattle.shape.proofs.TypeRows.{type_walk, type_at, type_rest}
 use Rattle.args.specs.Row.{Row}
 use Rattle.args.proofs.ArgumentRows.{row_walk, each_ok}
 use Rattle.common_type.specs.Brought.{brought, part_type, part_types, Parts}
-use Rattle.common_type.specs.CommonTypes.{CommonAt, CommonEnds, Meets, Goes, GoesTypes}
+use Rattle.common_type.specs.CommonTypes.{CommonAt, Commons, Meets, Goes, GoesTypes}
 use Rattle.common_type.proofs.Meets.{brought_common}
 use Rattle.std.specs.declared.option.Option.{Option}
 use Rattle.std.specs.declared.option.Option.TheVariants.{None, Some}
@@ -45,8 +45,8 @@ module _ {A : Type 0} {f : List A → List Ty} {q : ℕ} {ty : List ℕ} {o : Ma
   so_none z = sym so_same ∙ (ap (λ (v : Maybe Ty). common_from v (f l)) z ∙ from_none (f l))
 
   module _ {next : List ℕ} (w : Whole next u) (r : Option ℕ) (ty' : List ℕ) (x : Meets ty q next r ty') where
-    met : {c : Option ℕ} → r ≡ c → CommonEnds (meet (some g.type) u) c ty'
-    met e = subst (λ (z : Option ℕ). CommonEnds (meet (some g.type) u) z ty') e (x g.type u g.stands w)
+    met : {c : Option ℕ} → r ≡ c → Commons (meet (some g.type) u) c ty'
+    met e = subst (λ (z : Option ℕ). Commons (meet (some g.type) u) z ty') e (x g.type u g.stands w)
 
     pub so_on : {n : ℕ} → r ≡ Some n → SoFar f n ty' o l
     so_on h = so_at (met h)
@@ -70,14 +70,14 @@ kept_stands {s = s} {out = out} {out' = out'} {t = t} {q = q} w p h =
 -- from the first argument's type to the common one
 pub first_common : {flat : Bool} {s : List ℕ} (l : List Val) → Row s 0 l → 0 < length s → {e q : ℕ} {ty : List ℕ} → Parts flat s 0 e q ty
     → (r : Option ℕ) (ty' : List ℕ)
-    → Goes flat s e ty q r ty' → CommonEnds (common (map type_of (brought flat l))) r ty'
+    → Goes flat s e ty q r ty' → Commons (common (map type_of (brought flat l))) r ty'
 first_common {flat} {s} l w h x r ty' y =
     let m = (row_walk s).next w h in
     let z = x m.item m.others (subst (Row s 0) m.is w) in
     let a : AllOk (m.item ∷ m.others) = subst AllOk m.is (each_ok l w.each) in
     let b : common (map type_of (brought flat l)) ≡ common_from (some (part_type flat (type_of m.item))) (part_types flat m.others) =
     ap (λ (k : List Val). common (map type_of (brought flat k))) m.is ∙ brought_common flat m.item m.others a in
-    subst (λ (o : Maybe Ty). CommonEnds o r ty') (sym b) (y m.others _ z.next.rest z.stands)
+    subst (λ (o : Maybe Ty). Commons o r ty') (sym b) (y m.others _ z.next.rest z.stands)
 
 -- ---- types
 
@@ -88,9 +88,9 @@ none_common = refl
 -- from the first type, which was kept, to the common one
 pub first_types : {s : List ℕ} (l : List Ty) → TypeRow s 0 l → 0 < length s → {e : ℕ} → EndsAt 15 s 0 e → {q : ℕ} {ty : List ℕ}
     → ((t : Ty) → Whole (take e s) t → Stands 15 ty 0 t q)
-    → (r : Option ℕ) (ty' : List ℕ) → GoesTypes s e ty q r ty' → CommonEnds (common l) r ty'
+    → (r : Option ℕ) (ty' : List ℕ) → GoesTypes s e ty q r ty' → Commons (common l) r ty'
 unfolding common
 first_types {s} l w h f p r ty' y =
     let m = (type_walk s).next w h in
     let x = subst (TypeRow s 0) m.is w in
-    subst (λ (k : List Ty). CommonEnds (common k) r ty') (sym m.is) (y m.others m.item (type_rest x f) (p m.item (front_whole (type_at x f))))
+    subst (λ (k : List Ty). Commons (common k) r ty') (sym m.is) (y m.others m.item (type_rest x f) (p m.item (front_whole (type_at x f))))

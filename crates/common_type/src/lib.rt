@@ -161,18 +161,17 @@ fn common_rest(args: &[u8], i: usize, flat: bool, ty: &mut [u8], q: usize) -> Op
 
 // The common type of the values that the arguments bring, with `flat` the parts of vectors: "one of its own types to
 // which all others convert; none exists otherwise", so there is none of no argument. Its record is
-// written at the front of `ty`.
-pub fn common_type_of<'t>(args: &[u8], flat: bool, ty: &'t mut [u8]) -> Option<Type<'t>>
+// written at the front of `ty`, and the answer is where it ends.
+pub fn common_type_of(args: &[u8], flat: bool, ty: &mut [u8]) -> Option<usize>
     requires some_row { SomeRow args.now 0 }
     requires ty_len { length ty.old ≡ 4096 }
-    ensures { (l : List Val) → Row args.now 0 l → Commons (common (map type_of (brought flat l))) result }
+    ensures { (l : List Val) → Row args.now 0 l → Commons (common (map type_of (brought flat l))) result ty.new }
 {
     if args.len() == 0 {
         return None;
     }
     let first = first_type(args, flat, ty);
-    let q = common_rest(args, first.end, flat, ty, first.ty)?;
-    Some(Type { bytes: &ty[..q] })
+    common_rest(args, first.end, flat, ty, first.ty)
 }
 
 // ---- the same for types in a row
@@ -198,17 +197,17 @@ fn common_types_from(types: &[u8], i: usize, ty: &mut [u8], q: usize) -> Option<
     Some(end)
 }
 
-// The common type of the types whose records stand in a row. Its record is written at the front of `ty`.
-pub fn common_type<'t>(types: &[u8], ty: &'t mut [u8]) -> Option<Type<'t>>
+// The common type of the types whose records stand in a row. Its record is written at the front of `ty`, and the answer
+// is where it ends.
+pub fn common_type(types: &[u8], ty: &mut [u8]) -> Option<usize>
     requires some_type_row { SomeTypeRow types.now 0 }
     requires ty_len { length ty.old ≡ 4096 }
-    ensures { (l : List Ty) → TypeRow types.now 0 l → Commons (common l) result }
+    ensures { (l : List Ty) → TypeRow types.now 0 l → Commons (common l) result ty.new }
 {
     if types.len() == 0 {
         return None;
     }
     let e = shape::end_of_type(types, 0, Limit::DEPTH);
     let first = keep(ty, Type { bytes: &types[..e] });
-    let q = common_types_from(types, e, ty, first)?;
-    Some(Type { bytes: &ty[..q] })
+    common_types_from(types, e, ty, first)
 }

@@ -87,7 +87,8 @@ pub fn convert_to(target: &[u8], args: &[u8], out: &mut [u8]) -> Result<usize, R
         return Err(Refusal::BadTarget);
     }
     let mut buf = [0u8; Limit::TYPE_BYTES];
-    let ty = args::one_value(args, &mut buf).ok_or(Refusal::BadArgument)?;
+    let q = args::one_value(args, &mut buf).ok_or(Refusal::BadArgument)?;
+    let ty = Type { bytes: &buf[..q] };
     if let Target::Runtime = found {
         return convert_array(target, args, ty, out);
     }

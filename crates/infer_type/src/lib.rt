@@ -71,7 +71,8 @@ fn name_matrix_parts(size: Size, args: Types) -> Result<u8, Refusal>
     ensures { MatrixPartsName size.columns size.rows args.entry.bytes.now args.entry.count result }
 {
     let mut room = [0u8; Limit::TYPE_BYTES];
-    let ty = common_type::common_type(args.bytes, &mut room).ok_or(Refusal::NoCommonType)?;
+    let q = common_type::common_type(args.bytes, &mut room).ok_or(Refusal::NoCommonType)?;
+    let ty = Type { bytes: &room[..q] };
     name_matrix_from(size, ty, args.count)
 }
 

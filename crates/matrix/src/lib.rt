@@ -185,7 +185,8 @@ pub fn qm_parts(size: Size, args: Values, out: &mut [u8]) -> Result<usize, Refus
     ensures { QmParts size.columns size.rows args.entry.bytes.now args.entry.count out.old result out.new }
 {
     let mut buf = [0u8; Limit::TYPE_BYTES];
-    let ty = common_type::common_type_of(args.bytes, false, &mut buf).ok_or(Refusal::NoCommonType)?;
+    let q = common_type::common_type_of(args.bytes, false, &mut buf).ok_or(Refusal::NoCommonType)?;
+    let ty = Type { bytes: &buf[..q] };
     qm_to(size, ty, args, out)
 }
 

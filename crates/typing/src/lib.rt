@@ -82,7 +82,8 @@ fn answer_array(args: Types, out: &mut [u8]) -> Result<usize, Refusal>
     ensures { ArrayAnswers args.entry.bytes.now args.entry.count out.old result out.new }
 {
     let mut room = [0u8; Limit::TYPE_BYTES];
-    let ty = common_type::common_type(args.bytes, &mut room).ok_or(Refusal::NoCommonType)?;
+    let q = common_type::common_type(args.bytes, &mut room).ok_or(Refusal::NoCommonType)?;
+    let ty = Type { bytes: &room[..q] };
     hand_array(args.count, ty, out)
 }
 

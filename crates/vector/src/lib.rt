@@ -267,6 +267,7 @@ pub fn qv_parts(n: u8, args: &[u8], out: &mut [u8]) -> Result<usize, Refusal>
         return Err(Refusal::Count { wanted, given });
     }
     let mut buf = [0u8; Limit::TYPE_BYTES];
-    let ty = common_type::common_type_of(args, true, &mut buf).ok_or(Refusal::NoCommonType)?;
+    let q = common_type::common_type_of(args, true, &mut buf).ok_or(Refusal::NoCommonType)?;
+    let ty = Type { bytes: &buf[..q] };
     to_common(n, args, ty, out)
 }

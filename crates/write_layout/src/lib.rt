@@ -237,6 +237,7 @@ pub fn write_layout(args: &[u8], out: &mut [u8]) -> Result<usize, Refusal>
     ensures { Told (write_answer args.now (length out.old)) out.old result out.new }
 {
     let mut buf = [0u8; Limit::TYPE_BYTES];
-    let ty = args::one_value(args, &mut buf).ok_or(Refusal::BadArgument)?;
+    let q = args::one_value(args, &mut buf).ok_or(Refusal::BadArgument)?;
+    let ty = Type { bytes: &buf[..q] };
     write_one(ty, args, out)
 }

@@ -10,8 +10,3 @@ returns-then-e-args c = derived_more c.args.ty.now c.requires c.in_ok-e.ensures 
 
 pub returns : goal.returns
 returns c = derived_one c.args.ty.now c.requires c.in_ok-e.ensures c.if-e-args.false
-
-pub invariant_of-result : goal.invariant_of-result
-invariant_of-result c =
-    let x = derived_one c.args.ty.now c.requires c.in_ok-e.ensures c.if-e-args.false in
-    record { one = record { type = _; stands = x.whole } }

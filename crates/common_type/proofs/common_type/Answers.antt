@@ -11,7 +11,6 @@ use Rattle.shape.specs.TypeRows.{TypeRow, SomeTypeRow}
 use Rattle.ty.proofs.FrontOfBuffer.{front_whole}
 use Rattle.shape.proofs.TypeRows.{type_walk, types_standing, types_short, types_ends, types_on}
 use Rattle.common_type.proofs.SoFar.{none_common, first_types}
-use Rattle.common_type.proofs.CommonAnswer.{ends_at, ends_never, front_is, front_ends}
 use Rattle.common_type.proofs.common_type.Goals as goal
 
 given : {s : List ℕ} → SomeTypeRow s 0 → Left (TypeRow s) 0 (λ l. Unit {0})
@@ -50,23 +49,7 @@ common_types_from-requires c =
       room = c.keep-first.auto.ty ∙ c.requires.ty_len;
     }
 
-pub returns-in_err-q : goal.returns-in_err-q
-returns-in_err-q c =
-    λ l w. rw c.from_residual.ensures (ends_never _ _ _ (first_types l w (omega (arith, c.if-types-eq0.false)) c.end_of_type-e.ensures c.keep-first.ensures
-    c.common_types_from.result c.common_types_from.new.ty c.common_types_from.ensures) c.in_err-q.was)
-
-pub slice_bounds-result-end : goal.slice_bounds-result-end
-slice_bounds-result-end c =
-    front_ends (ends_at _ _ _ (first_types _ c.requires.some_type_row.row (omega (arith, c.if-types-eq0.false)) c.end_of_type-e.ensures c.keep-first.ensures
-    c.common_types_from.result c.common_types_from.new.ty c.common_types_from.ensures) c.in_ok-q.was)
-
-pub invariant_of-result : goal.invariant_of-result
-invariant_of-result c =
-    let x = ends_at _ _ _ (first_types _ c.requires.some_type_row.row (omega (arith, c.if-types-eq0.false)) c.end_of_type-e.ensures c.keep-first.ensures
-    c.common_types_from.result c.common_types_from.new.ty c.common_types_from.ensures) c.in_ok-q.was in
-    record { one = record { type = _; stands = front_whole x.stands } }
-
 pub returns : goal.returns
 returns c =
-    λ l w. front_is (ends_at _ _ _ (first_types l w (omega (arith, c.if-types-eq0.false)) c.end_of_type-e.ensures c.keep-first.ensures
-    c.common_types_from.result c.common_types_from.new.ty c.common_types_from.ensures) c.in_ok-q.was)
+    λ l w. first_types l w (omega (arith, c.if-types-eq0.false)) c.end_of_type-e.ensures c.keep-first.ensures
+    c.common_types_from.result c.common_types_from.new.ty c.common_types_from.ensures

@@ -8,8 +8,6 @@ use Rattle.args.proofs.ArgumentRows.{row_some, row_none}
 use Rattle.common_type.specs.Brought.{brought}
 use Rattle.common_type.proofs.Meets.{brought_none}
 use Rattle.common_type.proofs.SoFar.{first_common}
-use Rattle.common_type.proofs.CommonAnswer.{ends_at, ends_never, front_is, front_ends}
-use Rattle.ty.proofs.FrontOfBuffer.{front_whole}
 use Rattle.common_type.proofs.common_type_of.Goals as goal
 
 pub returns-then-args-eq0 : goal.returns-then-args-eq0
@@ -30,23 +28,7 @@ common_rest-requires c =
       room = c.first_type-first.auto.ty ∙ c.requires.ty_len;
     }
 
-pub returns-in_err-q : goal.returns-in_err-q
-returns-in_err-q c =
-    λ l w. rw c.from_residual.ensures (ends_never _ _ _ (first_common l w (omega (arith, c.if-args-eq0.false)) c.first_type-first.ensures
-    c.common_rest.result c.common_rest.new.ty c.common_rest.ensures) c.in_err-q.was)
-
-pub slice_bounds-result-end : goal.slice_bounds-result-end
-slice_bounds-result-end c =
-    front_ends (ends_at _ _ _ (first_common c.requires.some_row.values c.requires.some_row.row (omega (arith, c.if-args-eq0.false))
-    c.first_type-first.ensures c.common_rest.result c.common_rest.new.ty c.common_rest.ensures) c.in_ok-q.was)
-
-pub invariant_of-result : goal.invariant_of-result
-invariant_of-result c =
-    let x = ends_at _ _ _ (first_common c.requires.some_row.values c.requires.some_row.row (omega (arith, c.if-args-eq0.false))
-    c.first_type-first.ensures c.common_rest.result c.common_rest.new.ty c.common_rest.ensures) c.in_ok-q.was in
-    record { one = record { type = _; stands = front_whole x.stands } }
-
 pub returns : goal.returns
 returns c =
-    λ l w. front_is (ends_at _ _ _ (first_common l w (omega (arith, c.if-args-eq0.false)) c.first_type-first.ensures
-    c.common_rest.result c.common_rest.new.ty c.common_rest.ensures) c.in_ok-q.was)
+    λ l w. first_common l w (omega (arith, c.if-args-eq0.false)) c.first_type-first.ensures
+    c.common_rest.result c.common_rest.new.ty c.common_rest.ensures
