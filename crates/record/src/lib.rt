@@ -124,6 +124,16 @@ pub struct Writer<'a> {
     pub at: usize,
 }
 
+// A part becomes those bytes. The library's `copy_from_slice` would ask for `memmove` of whoever links the archive.
+fn overwrite(part: &mut [u8], bytes: &[u8])
+    requires { length part.old ≡ length bytes.now }
+    ensures { part.new ≡ bytes.now }
+{
+    for i in 0..bytes.len() {
+        part[i] = bytes[i];
+    }
+}
+
 impl Writer<'_> {
     // One byte; two, three and four.
     pub fn put_byte(&mut self, a: u8)
@@ -179,7 +189,7 @@ impl Writer<'_> {
         ensures same_reference { self.new.out.ghost_name ≡ self.old.out.ghost_name }
     {
         let end = self.at + bytes.len();
-        self.out[self.at..end].copy_from_slice(bytes);
+        overwrite(&mut self.out[self.at..end], bytes);
         self.at = end;
     }
 
