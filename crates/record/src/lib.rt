@@ -206,11 +206,11 @@ impl Writer<'_> {
             return;
         }
         if w > 2 {
-            self.put_bytes(&bytes[..4]);
+            self.put_four(bytes[0], bytes[1], bytes[2], bytes[3]);
             return;
         }
         if w > 1 {
-            self.put_bytes(&bytes[..2]);
+            self.put_pair(bytes[0], bytes[1]);
             return;
         }
         if w > 0 {

@@ -13,12 +13,12 @@ returns-then-w-gt4-clause-put c =
 pub returns-then-w-gt2-clause-put : goal.returns-then-w-gt2-clause-put
 returns-then-w-gt2-clause-put c =
     rw (width_four _ (search) c.if-w-gt2.true c.if-w-gt4.false, le_is)
-    (rw c.to_le_bytes-bytes.ensures at c.put_bytes-then-w-gt2.ensures.put)
+    (rw c.to_le_bytes-bytes.ensures at c.put_four.ensures.put)
 
 pub returns-then-w-gt1-clause-put : goal.returns-then-w-gt1-clause-put
 returns-then-w-gt1-clause-put c =
     let e : c.args.w ≡ 2 = omega arith in
-    rw (e, le_is) (rw c.to_le_bytes-bytes.ensures at c.put_bytes-then-w-gt1.ensures.put)
+    rw (e, le_is) (rw c.to_le_bytes-bytes.ensures at c.put_pair.ensures.put)
 
 pub returns-then-w-gt0-clause-put : goal.returns-then-w-gt0-clause-put
 returns-then-w-gt0-clause-put c =
